@@ -1,0 +1,5 @@
+pub mod Kind
+pub mod Size
+pub mod Decimal
+pub mod Absolute
+pub mod Least

@@ -1,0 +1,4 @@
+pub mod Every
+pub mod ListOf
+pub mod Fill
+pub mod InPlace

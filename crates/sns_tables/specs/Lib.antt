@@ -1,0 +1,5 @@
+pub mod Codebooks
+pub mod Rotation
+pub mod Gains
+pub mod Offsets
+pub mod Bands
