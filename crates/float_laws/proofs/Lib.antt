@@ -3,6 +3,7 @@ pub mod Order
 pub mod NoNan
 pub mod Size
 pub mod Divide
+pub mod Whole
 pub mod Tests
 pub mod Absolute
 pub mod Least

@@ -54,7 +54,7 @@ limits rate ten h =
     let l = limitsOf rate ten in
     let n = number-bands rate ten h in
     let t : T (both (eqb (length l) (bandsOf rate ten + 1)) (both (starts l) (rises (bandsOf rate ten) l))) =
-        subst (λ (m : ℕ). T (both (eqb (length l) (m + 1)) (both (starts l) (rises m l)))) (n .1) (at-place [] sound limitTables all-sound k (rw tables (n .0))) in
+    subst (λ (m : ℕ). T (both (eqb (length l) (m + 1)) (both (starts l) (rises m l)))) (n .1) (at-place [] sound limitTables all-sound k (rw tables (n .0))) in
     let u = both-right (eqb (length l) (bandsOf rate ten + 1)) (both (starts l) (rises (bandsOf rate ten) l)) t in
     record {
       count = eqb→eq (length l) (bandsOf rate ten + 1) (both-left (eqb (length l) (bandsOf rate ten + 1)) (both (starts l) (rises (bandsOf rate ten) l)) t);

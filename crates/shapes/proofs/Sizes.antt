@@ -1,0 +1,20 @@
+-- The sizes of the four sets, as the sum of offsets that the definition says. Assumes nothing.
+use mathlib.Core.Path.{_≡_, refl}
+use lib.Dec.{T, eqb, eqb→eq}
+use Rattle.sns_tables.specs.Offsets.{offsetOf, sizeOf}
+
+pub size-regular-a : sizeOf 10 10 ≡ 2390004
+unfolding sizeOf offsetOf
+size-regular-a = refl
+
+pub size-regular-b : sizeOf 6 1 ≡ 6
+unfolding sizeOf offsetOf
+size-regular-b = refl
+
+pub size-near : sizeOf 16 8 ≡ 15158272
+unfolding sizeOf offsetOf
+size-near = refl
+
+pub size-far : sizeOf 16 6 ≡ 774912
+unfolding sizeOf offsetOf
+size-far = refl

@@ -1,0 +1,143 @@
+// The shapes: each set of pulse vectors states its dimension, pulse count and size as constants of a type of its own,
+// and PulseSet's constructors read them from there. Public for the crates above only; every result is pinned.
+ghost use mathlib.Core.Path.{_≡_};
+ghost use Prim.Native.Nat.{_<_};
+ghost use Rattle.shapes.specs.Sets.{setA, setB, foundOf};
+
+// Shape 0, set A: ten pulses on places 0 to 9.
+pub struct RegularA {}
+
+impl RegularA {
+    pub const DIMENSION: usize = 10;
+
+    pub const PULSES: usize = 10;
+
+    pub const SIZE: u32 = 2390004;
+}
+
+// Shape 0, set B: one pulse on places 10 to 15.
+pub struct RegularB {}
+
+impl RegularB {
+    pub const DIMENSION: usize = 6;
+
+    pub const PULSES: usize = 1;
+
+    pub const SIZE: u32 = 6;
+}
+
+// Shape 1: ten pulses on places 0 to 9, and none on the others.
+pub struct RegularLf {}
+
+impl RegularLf {
+    pub const DIMENSION: usize = 10;
+
+    pub const PULSES: usize = 10;
+
+    pub const SIZE: u32 = 2390004;
+}
+
+// Shape 2: eight pulses on sixteen places.
+pub struct OutlierNear {}
+
+impl OutlierNear {
+    pub const DIMENSION: usize = 16;
+
+    pub const PULSES: usize = 8;
+
+    pub const SIZE: u32 = 15158272;
+}
+
+// Shape 3: six pulses on sixteen places.
+pub struct OutlierFar {}
+
+impl OutlierFar {
+    pub const DIMENSION: usize = 16;
+
+    pub const PULSES: usize = 6;
+
+    pub const SIZE: u32 = 774912;
+}
+
+// A set of pulse vectors: so many places, so many pulses, and so many vectors of either lead sign.
+pub struct PulseSet {
+    pub dimension: usize,
+    pub pulses: usize,
+    pub size: u32,
+}
+
+// The set of a pair, or none.
+pub enum Found {
+    Set(PulseSet),
+    Nothing,
+}
+
+impl PulseSet {
+    // Set A of a shape: all of its pulses, but for the one of set B.
+    pub fn new(shape: usize) -> Self
+        requires { ⌜ shape < 4 ⌝ }
+        ensures { λ r. ⌜ r ≡ setA shape ⌝ }
+    {
+        match shape {
+            0 => PulseSet {
+                dimension: RegularA::DIMENSION,
+                pulses: RegularA::PULSES,
+                size: RegularA::SIZE,
+            },
+            1 => PulseSet {
+                dimension: RegularLf::DIMENSION,
+                pulses: RegularLf::PULSES,
+                size: RegularLf::SIZE,
+            },
+            2 => PulseSet {
+                dimension: OutlierNear::DIMENSION,
+                pulses: OutlierNear::PULSES,
+                size: OutlierNear::SIZE,
+            },
+            _ => PulseSet {
+                dimension: OutlierFar::DIMENSION,
+                pulses: OutlierFar::PULSES,
+                size: OutlierFar::SIZE,
+            },
+        }
+    }
+
+    // Set B, which shape 0 alone has.
+    pub fn set_b() -> Self
+        ensures { λ r. ⌜ r ≡ setB ⌝ }
+    {
+        PulseSet {
+            dimension: RegularB::DIMENSION,
+            pulses: RegularB::PULSES,
+            size: RegularB::SIZE,
+        }
+    }
+
+    // The set of a dimension and a pulse count, where the pair is one of the four.
+    pub fn find(dimension: usize, pulses: usize) -> Found
+        ensures { λ r. ⌜ r ≡ foundOf dimension pulses ⌝ }
+    {
+        if dimension == RegularA::DIMENSION {
+            if pulses == RegularA::PULSES {
+                return Found::Set(PulseSet::new(0));
+            }
+            return Found::Nothing;
+        }
+        if dimension == RegularB::DIMENSION {
+            if pulses == RegularB::PULSES {
+                return Found::Set(PulseSet::set_b());
+            }
+            return Found::Nothing;
+        }
+        if dimension == OutlierNear::DIMENSION {
+            if pulses == OutlierNear::PULSES {
+                return Found::Set(PulseSet::new(2));
+            }
+            if pulses == OutlierFar::PULSES {
+                return Found::Set(PulseSet::new(3));
+            }
+            return Found::Nothing;
+        }
+        Found::Nothing
+    }
+}
