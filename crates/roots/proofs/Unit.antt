@@ -2,14 +2,14 @@
 use mathlib.Core.Path.{_≡_, refl, subst}
 use mathlib.Core.Logic.{inl, inr}
 use mathlib.Core.Bool.{Bool, true, false, not, _||_}
-use Prim.Native.Nat.{ℕ, suc, _+_, _-_, _*_, _^_, _≤_, _<_}
+use Prim.Native.Nat.{ℕ, suc, _-_, _*_, _≤_, _<_}
 use native.Mathlib.Nat.{le-trans, le-of-lt, mul-le-mul, eq-zero-or-pos}
 use native.Mathlib.Omega.{arith}
 use borrow.Author.Tests.{ltb-true, ltb-false}
 use lib.Dec.{T, ltb, leb, le→leb, lit<, lit≤}
 use lib.ListN.{getD}
 use lib.IntN.{ℤ, natAbs}
-use lib.Ieee.{Float, binary32, ofBits, ofInt, div}
+use lib.Ieee.{binary32, ofBits, ofInt, div}
 use Rattle.float_laws.specs.Size.{Within, AtLeast, atLeastb}
 use Rattle.float_laws.proofs.Size.{at-least-test, whole-exact}
 use Rattle.float_laws.proofs.Divide.{div-within}

@@ -1,11 +1,10 @@
 -- The f32 nearest to the square root of a whole number from 1 to 101, by comparing whole-number squares. Definitions only.
 use mathlib.Core.Path.{_≡_}
-use mathlib.Core.Bool.{Bool, true, false, not, _&&_}
+use mathlib.Core.Bool.{Bool, false, not}
 use mathlib.Core.List.{List, [], _∷_, map}
 use Prim.Native.Nat.{ℕ, _+_, _-_, _*_, _<_}
-use lib.Dec.{T}
 use lib.ListN.{getD}
-use lib.Ieee.{Float, nan, inf, fin, binary32, ofBits, up, down, fits, lt}
+use lib.Ieee.{Float, nan, inf, fin, binary32, ofBits, up, down}
 
 -- a finite value that is not below zero is numerator / denominator
 abbrev pub numerator : Float → ℕ

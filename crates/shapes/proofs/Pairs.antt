@@ -1,9 +1,8 @@
 -- The set of a pair, where the pair is one of the four, and none where it is not. Assumes nothing.
-use mathlib.Core.Path.{_≡_, refl, sym, ap, _∙_}
+use mathlib.Core.Path.{_≡_, sym, ap}
 use mathlib.Core.Bool.{Bool, true, false}
 use Prim.Native.Nat.{ℕ}
 use Rattle.shapes.specs.declared.PulseSet.{PulseSet}
-use Rattle.shapes.specs.declared.Found.{Found}
 use Rattle.shapes.specs.declared.Found.the-variants.{Set, Nothing}
 use Rattle.shapes.specs.Sets.{setOf, paired, pick, foundOf}
 

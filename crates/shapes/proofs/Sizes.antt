@@ -1,6 +1,5 @@
 -- The sizes of the four sets, as the sum of offsets that the definition says. Assumes nothing.
 use mathlib.Core.Path.{_≡_, refl}
-use lib.Dec.{T, eqb, eqb→eq}
 use Rattle.sns_tables.specs.Offsets.{offsetOf, sizeOf}
 
 pub size-regular-a : sizeOf 10 10 ≡ 2390004

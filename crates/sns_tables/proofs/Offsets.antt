@@ -1,5 +1,5 @@
 -- The 176 offsets obey the recurrence at every entry: one computed test over the whole table, and the lemma that carries it to each entry. Assumes nothing.
-use mathlib.Core.Path.{_≡_, refl, sym, ap, ap₂, _∙_}
+use mathlib.Core.Path.{_≡_, refl, sym, _∙_}
 use mathlib.Core.Bool.{Bool}
 use mathlib.Core.List.{List, [], _∷_}
 use Prim.Native.Nat.{ℕ, zero, suc, _+_, _<_}
@@ -9,7 +9,7 @@ use lib.ListN.{length, getD}
 use Rattle.list_laws.specs.Every.{every, gridFrom}
 use Rattle.list_laws.specs.ListOf.{listOf}
 use Rattle.list_laws.proofs.Every.{at, at-grid}
-use Rattle.list_laws.proofs.ListOf.{is-listOf, length-listOf, getD-listOf}
+use Rattle.list_laws.proofs.ListOf.{is-listOf}
 use Rattle.sns_tables.specs.Offsets.{offsetOf, offsetTable}
 
 -- the constants of the code, row by row
