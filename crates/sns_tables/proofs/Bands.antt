@@ -9,7 +9,8 @@ use borrow.Author.Tests.{lt-ltb, le-ltb}
 use lib.ListN.{length, getD}
 use Rattle.list_laws.specs.Every.{both, everyBelow, everyFrom}
 use Rattle.list_laws.proofs.Every.{both-left, both-right, at-below, at-place}
-use Rattle.sns_tables.specs.Bands.{limitTables, tableNumber, limitsOf, bandsOf, Limits}
+use Rattle.sns_tables.specs.Bands.{limitTables, tableNumber, limitsOf, bandsOf}
+use Rattle.sns_tables.specs.Claims.{LimitsSound}
 
 -- the bands of table k
 bandsAt : ℕ → ℕ
@@ -47,7 +48,7 @@ number-bands rate false h = (omega arith, rw (back, le-ltb (5 + rate) 5 (omega a
     back : 5 + rate - 5 ≡ rate
     back = omega arith
 
-pub limits : (rate : ℕ) (ten : Bool) → rate < 5 → Limits rate ten
+pub limits : LimitsSound
 unfolding sound starts rises
 limits rate ten h =
     let k = tableNumber rate ten in
