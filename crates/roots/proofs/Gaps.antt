@@ -3,14 +3,14 @@ use mathlib.Core.Path.{_≡_, refl, sym, ap, _∙_}
 use mathlib.Core.Logic.{_⊎_, inl, inr}
 use mathlib.Core.Bool.{Bool, true, false, _&&_}
 use Prim.Native.Nat.{ℕ, zero, suc, _+_, _-_, _*_, _^_, _%_, _≤_, _<_}
-use native.Mathlib.Nat.{le-trans, le-of-eq, lt-of-lt-of-le, lt-of-le-of-lt, mul-comm, mul-assoc, mul-right-comm, mul-one, mul-le-mul, mul-le-mul-right, mul-le-mul-left, mul-lt-mul-of-pos-right, lt-of-mul-lt-mul-right, le-of-lt, pow-suc, pow-le-pow-right}
+use native.Mathlib.Nat.{le-trans, le-of-eq, lt-of-lt-of-le, lt-of-le-of-lt, mul-comm, mul-assoc, mul-right-comm, mul-one, mul-le-mul, mul-le-mul-right, mul-lt-mul-of-pos-right, lt-of-mul-lt-mul-right, le-of-lt, pow-suc, pow-le-pow-right}
 use lib.Pow.{pow-add, pow-pos}
 use native.Mathlib.Omega.{arith}
 use borrow.Author.Tests.{leb-true, leb-false}
 use lib.Dec.{T, ltb, leb, eqb, ltb→lt, lit<}
 use lib.IntN.{ℤ, pos, negsuc}
 use lib.Ieee.{Float, nan, inf, fin, binary32, up, down, low, emax, lt, fits}
-use lib.Ieee.Fits.{and-l, and-r, down-pos}
+use lib.Ieee.Fits.{and-l, and-r}
 use Rattle.roots.specs.Root.{numerator, denominator, positive}
 
 -- a significand has at most 24 binary digits
@@ -65,9 +65,9 @@ double i = omega arith
 -- m / 2 ^ k of at most 24 digits, below w / 2 ^ j and above it
 under-step : (m k w j : ℕ) → m < 2 ^ 24 → 2 ^ 23 < w → m * 2 ^ j < w * 2 ^ k → m * 2 ^ j ≤ (w - 1) * 2 ^ k
 under-step m k w j h l u = elim (aligned j k) [
-    | inl a ↦ multiple (a .0) (a .1)
-    | inr g ↦ le-trans (mul-le-mul-right (2 ^ j) (le-of-lt h)) (le-trans (le-of-eq (double (2 ^ j))) (mul-le-mul (pred l) g))
-  ]
+  | inl a ↦ multiple (a .0) (a .1)
+  | inr g ↦ le-trans (mul-le-mul-right (2 ^ j) (le-of-lt h)) (le-trans (le-of-eq (double (2 ^ j))) (mul-le-mul (pred l) g))
+]
   where
     multiple : (t : ℕ) → 2 ^ j ≡ t * 2 ^ k → m * 2 ^ j ≤ (w - 1) * 2 ^ k
     multiple t e =
@@ -83,9 +83,9 @@ under-step m k w j h l u = elim (aligned j k) [
 
 over-step : (m k w j : ℕ) → m < 2 ^ 24 → 2 ^ 23 ≤ w → w * 2 ^ k < m * 2 ^ j → (w + 1) * 2 ^ k ≤ m * 2 ^ j
 over-step m k w j h l u = elim (aligned j k) [
-    | inl a ↦ multiple (a .0) (a .1)
-    | inr g ↦ absurd (never (m * 2 ^ j) (w * 2 ^ k) u (le-trans (mul-le-mul-right (2 ^ j) (le-of-lt h)) (le-trans (le-of-eq (double (2 ^ j))) (mul-le-mul l g))))
-  ]
+  | inl a ↦ multiple (a .0) (a .1)
+  | inr g ↦ absurd (never (m * 2 ^ j) (w * 2 ^ k) u (le-trans (mul-le-mul-right (2 ^ j) (le-of-lt h)) (le-trans (le-of-eq (double (2 ^ j))) (mul-le-mul l g))))
+]
   where
     multiple : (t : ℕ) → 2 ^ j ≡ t * 2 ^ k → (w + 1) * 2 ^ k ≤ m * 2 ^ j
     multiple t e =

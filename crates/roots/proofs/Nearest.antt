@@ -1,12 +1,12 @@
 -- Each root of the table is the nearest f32: one computed test, of its midpoints with the f32s next to it, and what that says of every other f32. Assumes nothing.
 use mathlib.Core.Path.{_≡_, refl, sym, ap, ap₂, _∙_, subst}
-use mathlib.Core.Logic.{_⊎_, inl, inr}
-use mathlib.Core.Bool.{Bool, true, false, _||_}
-use Prim.Native.Nat.{ℕ, suc, _+_, _-_, _*_, _/_, _%_, _^_, _<_, _≤_, zero-le}
-use native.Mathlib.Nat.{le-trans, le-of-eq, lt-of-lt-of-le, lt-of-le-of-lt, mul-comm, mul-assoc, mul-right-comm, mul-mul-mul-comm, add-mul, le-of-lt, mul-le-mul, mul-le-mul-right, mul-le-mul-left, mul-lt-mul-of-pos-left, mul-lt-mul-of-pos-right, lt-of-mul-lt-mul-right, mul-pos}
+use mathlib.Core.Logic.{inl, inr}
+use mathlib.Core.Bool.{Bool, _||_}
+use Prim.Native.Nat.{ℕ, _+_, _-_, _*_, _/_, _%_, _^_, _<_, _≤_, zero-le}
+use native.Mathlib.Nat.{le-trans, le-of-eq, lt-of-lt-of-le, lt-of-le-of-lt, mul-assoc, mul-right-comm, mul-mul-mul-comm, add-mul, le-of-lt, mul-le-mul, mul-le-mul-right, mul-le-mul-left, mul-lt-mul-of-pos-right, lt-of-mul-lt-mul-right, mul-pos}
 use native.Mathlib.Omega.{arith}
 use lib.Pow.{pow-pos}
-use lib.Dec.{T, ltb, eqb, ltb→lt, eqb→eq, lit<, lit≤}
+use lib.Dec.{T, ltb, eqb, ltb→lt, eqb→eq, lit<}
 use lib.ListN.{length, getD}
 use lib.Ieee.{Float, nan, inf, fin, binary32, ofBits, fits, lt}
 use lib.Ieee.Fits.{down-pos}
@@ -152,10 +152,10 @@ nearest n bits t =
     let mids = both-right (placedb bits) (both (lowb n w (2 ^ j)) (highb n w (2 ^ j))) t in
     let plus = both-left (positive r) (eqb (numerator r * 2 ^ j) (w * denominator r)) own in
     let p : Placed w j r = record {
-          value = eqb→eq (numerator r * 2 ^ j) (w * denominator r) (both-right (positive r) (eqb (numerator r * 2 ^ j) (w * denominator r)) own);
-          large = large (bits % 8388608);
-          plus = plus;
-        } in
+      value = eqb→eq (numerator r * 2 ^ j) (w * denominator r) (both-right (positive r) (eqb (numerator r * 2 ^ j) (w * denominator r)) own);
+      large = large (bits % 8388608);
+      plus = plus;
+    } in
     record {
       held = ofBits-fits binary32 bits;
       plus = plus;
@@ -169,7 +169,6 @@ nearest n bits t =
 pub roots-count : length rootBits ≡ 101
 unfolding rootBits
 roots-count = refl
-
 
 pub root-nearest : RootNearest
 unfolding rootOf

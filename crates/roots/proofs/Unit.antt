@@ -8,7 +8,7 @@ use native.Mathlib.Omega.{arith}
 use borrow.Author.Tests.{ltb-true, ltb-false}
 use lib.Dec.{T, ltb, leb, le→leb, lit<, lit≤}
 use lib.ListN.{getD}
-use lib.IntN.{ℤ, natAbs}
+use lib.IntN.{natAbs}
 use lib.Ieee.{binary32, ofBits, ofInt, div}
 use Rattle.float_laws.specs.Size.{Within, AtLeast, atLeastb}
 use Rattle.float_laws.proofs.Size.{at-least-test, whole-exact}
