@@ -3,3 +3,4 @@ pub mod ListOf
 pub mod Fill
 pub mod InPlace
 pub mod Prefix
+pub mod Range
