@@ -2,3 +2,4 @@ pub mod Every
 pub mod ListOf
 pub mod Fill
 pub mod InPlace
+pub mod Full
