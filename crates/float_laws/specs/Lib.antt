@@ -3,3 +3,5 @@ pub mod Size
 pub mod Decimal
 pub mod Absolute
 pub mod Least
+pub mod Running
+pub mod Scan

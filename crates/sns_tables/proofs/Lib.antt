@@ -1,3 +1,5 @@
 pub mod Offsets
 pub mod Bands
 pub mod Sizes
+pub mod ByPlace
+pub mod Codes

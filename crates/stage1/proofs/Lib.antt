@@ -1,0 +1,4 @@
+pub mod Codes
+pub mod Whole
+pub mod Nearest
+pub mod Sizes

@@ -1,0 +1,19 @@
+-- How large the residuals are. Assumes nothing.
+use Prim.Native.Nat.{_+_}
+use native.Mathlib.Nat.{le-refl}
+use lib.Dec.{lit<}
+use lib.ListN.{getD}
+use lib.Ieee.{nan, binary32, sub}
+use Rattle.float_laws.proofs.Size.{whole-exact, sub-within}
+use Rattle.list_laws.proofs.ListOf.{getD-listOf}
+use Rattle.sns_tables.specs.Codes.{codeOf}
+use Rattle.sns_tables.proofs.Codes.{code-within}
+use Rattle.stage1.specs.Stage1.{lowRow, highRow}
+use Rattle.stage1.specs.Claims.{Residual-within}
+use Rattle.stage1.proofs.Nearest.{low-inside, high-inside}
+
+pub residual-within : Residual-within
+residual-within limit room x f n h =
+    rw (getD-listOf 16 (λ i. sub binary32 (getD x i nan) (codeOf (lowRow x) (highRow x) i)) nan n h)
+    (sub-within binary32 (limit + 5) 1 (lit< tt) (whole-exact binary32 (limit + 5) room) (getD x n nan) (codeOf (lowRow x) (highRow x) n) limit 5 (le-refl (limit + 5)) (f n h)
+    (code-within (lowRow x) (highRow x) n (low-inside x) (high-inside x) h))

@@ -1,0 +1,42 @@
+-- What is claimed of stage 1. Each claim is proved in proofs/, under its name in small letters. Definitions only.
+use mathlib.Core.Path.{_≡_}
+use mathlib.Core.Bool.{not}
+use mathlib.Core.List.{List}
+use Prim.Native.Nat.{ℕ, _+_, _^_, _≤_, _<_}
+use lib.Dec.{T}
+use lib.ListN.{getD}
+use lib.Ieee.{Float, nan, isNan}
+use Rattle.float_laws.specs.Kind.{finite}
+use Rattle.float_laws.specs.Size.{Within}
+use Rattle.float_laws.specs.Least.{FirstLeast}
+use Rattle.stage1.specs.Stage1.{lowDistance, highDistance, lowRow, highRow, residual}
+
+-- sixteen finite factors
+abbrev pub Finite : List Float → Type 0
+Finite x = (n : ℕ) → n < 16 → T (finite (getD x n nan))
+
+-- sixteen factors within a limit
+abbrev pub Limited : ℕ → List Float → Type 0
+Limited limit x = (n : ℕ) → n < 16 → Within (getD x n nan) limit 1
+
+-- no compared distance is NaN, however large the factors are
+abbrev pub No-nan : Type 0
+No-nan = (x : List Float) → Finite x → (row : ℕ) → row < 32 → T (not (isNan (lowDistance x row))) × T (not (isNan (highDistance x row)))
+
+-- each row is the first of 32 with the least computed distance: none is smaller, and each earlier one is larger
+abbrev pub Low-first : Type 0
+Low-first = (x : List Float) → Finite x → FirstLeast (lowDistance x) 32 (lowRow x)
+
+abbrev pub High-first : Type 0
+High-first = (x : List Float) → Finite x → FirstLeast (highDistance x) 32 (highRow x)
+
+-- and no other row is
+abbrev pub Low-only : Type 0
+Low-only = (x : List Float) → Finite x → (row : ℕ) → FirstLeast (lowDistance x) 32 row → row ≡ lowRow x
+
+abbrev pub High-only : Type 0
+High-only = (x : List Float) → Finite x → (row : ℕ) → FirstLeast (highDistance x) 32 row → row ≡ highRow x
+
+-- factors within a limit leave residuals within the limit and 5, for any limit that leaves room for that in an f32's digits
+abbrev pub Residual-within : Type 0
+Residual-within = (limit : ℕ) → limit + 5 ≤ 2 ^ 24 → (x : List Float) → Limited limit x → (n : ℕ) → n < 16 → Within (getD (residual x) n nan) (limit + 5) 1

@@ -1,0 +1,2 @@
+pub mod Stage1
+pub mod Claims
