@@ -1,0 +1,4 @@
+pub mod Answers
+pub mod Unpack
+pub mod Pack
+pub mod Claims
