@@ -1,3 +1,4 @@
 pub mod Offsets
 pub mod Bands
 pub mod Sizes
+pub mod Rotation
