@@ -15,7 +15,7 @@ use Rattle.sns_tables.specs.Codes.{codeOf}
 use Rattle.sns_tables.specs.ByPlace.{byPlace, turnedAt}
 use Rattle.sns_tables.proofs.ByPlace.{turned}
 use Rattle.stage1.specs.declared.SnsStage1Result.{SnsStage1Result}
-use Rattle.stage1.specs.Stage1.{distance, half, lowRow, highRow, stage1Of}
+use Rattle.stage1.specs.Stage1.{distance, half, lowRow, highRow, rowsOf, codes, residual}
 
 upTo31 : (r : ℕ) → r ≤ 31 → r < 32
 upTo31 r h = omega arith
@@ -42,11 +42,13 @@ module _ (x : List Float) (cb : List (List Float)) (d : List Float) (r : ℕ) wh
   unfolding highRow
   high-row = same-row (half x 8) hfcbRows cb d r
 
-module _ (x : List Float) (lf hf : ℕ) (s r : List Float) where
-  -- the four parts, each as its step leaves it
-  pub whole : lf ≡ lowRow x → hf ≡ highRow x → s ≡ listOf 16 (codeOf lf hf) → r ≡ listOf 16 (λ n. sub binary32 (getD x n nan) (getD s n nan))
-      → _≡_ {A = SnsStage1Result} (record { «ind_lf» = lf; «ind_hf» = hf; st1 = s; r1 = r }) (stage1Of x)
-  whole a b c d = rw (left, c, a, b) refl
-    where
-      left : r ≡ listOf 16 (λ n. sub binary32 (getD x n nan) (codeOf lf hf n))
-      left = d ∙ same-listOf 16 _ _ (λ n h. rw (c, getD-listOf 16 (codeOf lf hf) nan n h) refl)
+module _ (x : List Float) (lf hf : ℕ) (a : lf ≡ lowRow x) (b : hf ≡ highRow x) where
+  pub both-rows : _≡_ {A = SnsStage1Result} (record { «ind_lf» = lf; «ind_hf» = hf }) (rowsOf x)
+  both-rows = rw (a, b) refl
+
+  module _ (s : List Float) (c : s ≡ listOf 16 (codeOf lf hf)) where
+    pub both-codes : s ≡ codes x
+    both-codes = rw (← a, ← b) c
+
+    pub less-codes : (r : List Float) → r ≡ listOf 16 (λ n. sub binary32 (getD x n nan) (getD s n nan)) → r ≡ residual x
+    less-codes r d = rw (← a, ← b) (d ∙ same-listOf 16 _ _ (λ n h. rw (c, getD-listOf 16 (codeOf lf hf) nan n h) refl))

@@ -36,6 +36,9 @@ lowRow x = leastTo (lowDistance x) 31
 unfoldable pub highRow : List Float → ℕ
 highRow x = leastTo (highDistance x) 31
 
+abbrev pub rowsOf : List Float → SnsStage1Result
+rowsOf x = record { «ind_lf» = lowRow x; «ind_hf» = highRow x }
+
 -- the codes of both rows
 abbrev pub codes : List Float → List Float
 codes x = listOf 16 (codeOf (lowRow x) (highRow x))
@@ -43,7 +46,3 @@ codes x = listOf 16 (codeOf (lowRow x) (highRow x))
 -- residual = factor minus code
 abbrev pub residual : List Float → List Float
 residual x = listOf 16 (λ n. sub binary32 (getD x n nan) (codeOf (lowRow x) (highRow x) n))
-
--- all that stage 1 answers
-abbrev pub stage1Of : List Float → SnsStage1Result
-stage1Of x = record { «ind_lf» = lowRow x; «ind_hf» = highRow x; st1 = codes x; r1 = residual x }

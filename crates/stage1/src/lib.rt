@@ -10,14 +10,12 @@ ghost use Rattle.list_laws.specs.ListOf.{listOf};
 ghost use Rattle.sns_tables.specs.Codebooks.{lfcbRows, hfcbRows};
 ghost use Rattle.sns_tables.specs.Codes.{codeOf};
 ghost use Rattle.sns_tables.specs.ByPlace.{byPlace, turnedAt};
-ghost use Rattle.stage1.specs.Stage1.{distance, half, stage1Of};
+ghost use Rattle.stage1.specs.Stage1.{distance, half, rowsOf, codes, residual};
 
-// Both rows, the sixteen codes of the two, and the sixteen factors less those.
+// The rows of the low and the high codebook.
 pub struct SnsStage1Result {
     pub ind_lf: usize,
     pub ind_hf: usize,
-    pub st1: [f32; 16],
-    pub r1: [f32; 16],
 }
 
 // The mean squared error distortion of one row, from the eight factors at `from`.
@@ -99,7 +97,7 @@ fn first_stage_vector(
 }
 
 // Factor minus code.
-fn residual(scf: &[f32; 16], st1: &[f32; 16]) -> [f32; 16]
+fn less(scf: &[f32; 16], st1: &[f32; 16]) -> [f32; 16]
     ensures { λ r. ⌜ r ≡ listOf 16 (λ n. sub binary32 (getD (now (scf .entry)) n nan) (getD (now (st1 .entry)) n nan)) ⌝ }
 {
     let mut r1 = [0.0f32; 16];
@@ -111,8 +109,11 @@ fn residual(scf: &[f32; 16], st1: &[f32; 16]) -> [f32; 16]
     r1
 }
 
-pub fn sns_quant_stage1(scf: &[f32; 16]) -> SnsStage1Result
-    ensures { λ r. ⌜ r ≡ stage1Of (now (scf .entry)) ⌝ }
+// The rows nearest to the sixteen factors. st1 takes their codes and r1 the residual.
+pub fn sns_quant_stage1(scf: &[f32; 16], st1: &mut [f32; 16], r1: &mut [f32; 16]) -> SnsStage1Result
+    ensures { λ r. ⌜ r ≡ rowsOf (now (scf .entry)) ⌝ }
+    ensures { λ r. ⌜ now (st1 .exit) ≡ codes (now (scf .entry)) ⌝ }
+    ensures { λ r. ⌜ now (r1 .exit) ≡ residual (now (scf .entry)) ⌝ }
 {
     let lfcb = sns_tables::by_place::lfcb_by_place();
     let hfcb = sns_tables::by_place::hfcb_by_place();
@@ -125,12 +126,9 @@ pub fn sns_quant_stage1(scf: &[f32; 16]) -> SnsStage1Result
     let ind_lf = smallest(&dmse_lf);
     let ind_hf = smallest(&dmse_hf);
 
-    let st1 = first_stage_vector(&lfcb, &hfcb, ind_lf, ind_hf);
-    let r1 = residual(scf, &st1);
-    SnsStage1Result {
-        ind_lf,
-        ind_hf,
-        st1,
-        r1,
-    }
+    let code = first_stage_vector(&lfcb, &hfcb, ind_lf, ind_hf);
+    let rest = less(scf, &code);
+    *st1 = code;
+    *r1 = rest;
+    SnsStage1Result { ind_lf, ind_hf }
 }

@@ -1,5 +1,5 @@
--- Each step hands on what the next one asks for; the four parts together are the answer.
-use Rattle.stage1.proofs.Whole.{inside, low-row, high-row, whole}
+-- Each step hands on what the next one asks for; rows, codes and residual follow from one another.
+use Rattle.stage1.proofs.Whole.{inside, low-row, high-row, both-rows, both-codes, less-codes}
 use borrow.Author.Needs.{needs}
 use Rattle.stage1.proofs.sns_quant_stage1.Statement.{statement}
 use Rattle.stage1.proofs.sns_quant_stage1.Tie as tie
@@ -28,17 +28,17 @@ first-stage-vector-requires c κs =
     let m = s .before .before .before .before .before .before in
     ((m .before .lfcb-by-place .ensures, m .hfcb-by-place .ensures), (inside _ _ (s .smallest .ensures), inside _ _ (c .before .before .smallest2 .ensures)))
 
-residual-requires : tie.Need-residual-requires
-residual-requires c κs = search needs
+less-requires : tie.Need-less-requires
+less-requires c κs = search needs
 
 returns : tie.Need-returns
 returns c =
     let s = c .before .before .before .before .before .before .before in
     let m = s .before .before .before .before .before .before in
-    whole _ _ _ _ _
-    (low-row _ _ _ _ (m .before .lfcb-by-place .ensures) (s .before .before .before .before .dmse-rows .ensures) (s .smallest .ensures))
-    (high-row _ _ _ _ (m .hfcb-by-place .ensures) (s .before .before .dmse-rows2 .ensures) (c .before .before .before .before .before .smallest2 .ensures))
-    (c .before .before .first-stage-vector .ensures) (c .residual .ensures)
+    let lf = low-row _ _ _ _ (m .before .lfcb-by-place .ensures) (s .before .before .before .before .dmse-rows .ensures) (s .smallest .ensures) in
+    let hf = high-row _ _ _ _ (m .hfcb-by-place .ensures) (s .before .before .dmse-rows2 .ensures) (c .before .before .before .before .before .smallest2 .ensures) in
+    let st1 = c .before .before .first-stage-vector .ensures in
+    (both-rows _ _ _ lf hf, (both-codes _ _ _ lf hf _ st1, less-codes _ _ _ lf hf _ st1 _ (c .less .ensures)))
 
 pub sns-quant-stage1-spec : {M : Type 1} → statement M
 sns-quant-stage1-spec =
@@ -51,5 +51,5 @@ sns-quant-stage1-spec =
     smallest-requires
     smallest-requires-2
     first-stage-vector-requires
-    residual-requires
+    less-requires
     returns)

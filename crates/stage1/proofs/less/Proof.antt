@@ -7,8 +7,8 @@ use lib.ListN.{getD}
 use Rattle.list_laws.proofs.Fill.{over, over-none, over-more}
 use Rattle.list_laws.proofs.Full.{full}
 use borrow.Author.Needs.{needs}
-use Rattle.stage1.proofs.residual.Statement.{statement}
-use Rattle.stage1.proofs.residual.Tie as tie
+use Rattle.stage1.proofs.less.Statement.{statement}
+use Rattle.stage1.proofs.less.Tie as tie
 
 abbrev Inv-loop : tie.InvT-loop
 Inv-loop scf st1 r1₀ n₀ r1 n = (n ≤ 16) × (r1 ≡ over (λ k. sub binary32 (getD scf k nan) (getD st1 k nan)) n r1₀)
@@ -49,8 +49,8 @@ loop-again c = (search needs, over-more _ _ _ _ _ (c .before .before .before .lo
 returns : tie.Need-returns Inv-loop μ-loop
 returns c = full _ _ _ _ _ (c .before .loop .inv .1) (omega arith) refl
 
-pub residual-spec : {M : Type 1} → statement M
-residual-spec =
+pub less-spec : {M : Type 1} → statement M
+less-spec =
     tie.close
     (tie.spec
     Inv-loop
