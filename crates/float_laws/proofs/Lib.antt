@@ -7,3 +7,7 @@ pub mod Whole
 pub mod Tests
 pub mod Absolute
 pub mod Least
+pub mod Running
+pub mod Scan
+pub mod Unsigned
+pub mod Floor

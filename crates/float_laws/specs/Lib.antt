@@ -3,3 +3,7 @@ pub mod Size
 pub mod Decimal
 pub mod Absolute
 pub mod Least
+pub mod Running
+pub mod Floor
+pub mod Scan
+pub mod Bounded

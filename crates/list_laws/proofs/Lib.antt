@@ -2,3 +2,5 @@ pub mod Every
 pub mod ListOf
 pub mod Fill
 pub mod InPlace
+pub mod Some
+pub mod Full
