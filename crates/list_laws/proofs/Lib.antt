@@ -4,3 +4,4 @@ pub mod Fill
 pub mod InPlace
 pub mod Some
 pub mod Full
+pub mod Prefix
