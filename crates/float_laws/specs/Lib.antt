@@ -5,3 +5,6 @@ pub mod Absolute
 pub mod Least
 pub mod Running
 pub mod Scan
+pub mod Floor
+pub mod Scan
+pub mod Bounded

@@ -2,6 +2,8 @@ pub mod Every
 pub mod ListOf
 pub mod Fill
 pub mod InPlace
+pub mod Some
+pub mod Full
 pub mod Prefix
 pub mod Range
 pub mod Full
