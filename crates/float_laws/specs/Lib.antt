@@ -6,5 +6,4 @@ pub mod Least
 pub mod Running
 pub mod Scan
 pub mod Floor
-pub mod Scan
 pub mod Bounded

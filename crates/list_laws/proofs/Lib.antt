@@ -6,4 +6,3 @@ pub mod Some
 pub mod Full
 pub mod Prefix
 pub mod Range
-pub mod Full

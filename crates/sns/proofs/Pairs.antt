@@ -1,6 +1,6 @@
 -- What finding the set of a pair says of the pair. Assumes nothing.
 use mathlib.Core.Path.{_≡_, refl, sym, ap, _∙_}
-use mathlib.Core.Bool.{Bool, true, false, _&&_, _||_}
+use mathlib.Core.Bool.{Bool, true, false, _&&_, _||_, cond}
 use mathlib.Core.Logic.{_⊎_, inl, inr}
 use Prim.Native.Nat.{ℕ, _≤_, _<_}
 use native.Mathlib.Omega.{arith}
@@ -10,7 +10,7 @@ use Rattle.sns_tables.specs.Offsets.{sizeOf}
 use Rattle.shapes.specs.declared.PulseSet.{PulseSet}
 use Rattle.shapes.specs.declared.Found.{Found}
 use Rattle.shapes.specs.declared.Found.the-variants.{Set, Nothing}
-use Rattle.shapes.specs.Sets.{setOf, samePair, paired, pick, foundOf}
+use Rattle.shapes.specs.Sets.{setOf, samePair, paired, foundOf}
 
 true-false : true ≡ false → ⊥
 true-false e = let q : _≡_ {A = ℕ} 0 1 = cc in omega arith
@@ -77,7 +77,7 @@ found-set n k s e = go (paired n k) refl
   where
     go : (b : Bool) → paired n k ≡ b → SetOf n k s
     go true p =
-        let q : s ≡ setOf n k = ap (λ f. setIn f s) e ∙ ap (λ b. setIn (pick b (Set (setOf n k)) Nothing) s) p in
+        let q : s ≡ setOf n k = ap (λ f. setIn f s) e ∙ ap (λ b. setIn (cond b (Set (setOf n k)) Nothing) s) p in
         record {
           pair = p;
           dimension = ap (λ (t : PulseSet). t .dimension) q;
@@ -85,12 +85,12 @@ found-set n k s e = go (paired n k) refl
           size = ap (λ (t : PulseSet). t .size) q;
           small = small n k p;
         }
-    go false p = absurd (true-false (ap isSet e ∙ ap (λ b. isSet (pick b (Set (setOf n k)) Nothing)) p))
+    go false p = absurd (true-false (ap isSet e ∙ ap (λ b. isSet (cond b (Set (setOf n k)) Nothing)) p))
 
 pub found-nothing : (n k : ℕ) → Nothing ≡ foundOf n k → paired n k ≡ false
 unfolding foundOf isSet
 found-nothing n k e = go (paired n k) refl
   where
     go : (b : Bool) → paired n k ≡ b → paired n k ≡ false
-    go true p = absurd (true-false (sym (ap isSet e ∙ ap (λ b. isSet (pick b (Set (setOf n k)) Nothing)) p)))
+    go true p = absurd (true-false (sym (ap isSet e ∙ ap (λ b. isSet (cond b (Set (setOf n k)) Nothing)) p)))
     go false p = p
