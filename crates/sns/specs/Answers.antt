@@ -1,5 +1,5 @@
 -- When the port says no: a call's questions in their order, the first that is answered with yes, and its number and place. Definitions only.
-use mathlib.Core.Bool.{Bool, true, false}
+use mathlib.Core.Bool.{Bool, cond}
 use mathlib.Core.List.{List, [], _∷_}
 use Prim.Native.Nat.{ℕ}
 use Rattle.sns.specs.declared.Answer.{Answer}
@@ -14,15 +14,11 @@ pub record Question : Type 0 where
 abbrev pub ask : ℕ → ℕ → Bool → Question
 ask number place given = record { number = number; place = place; given = given }
 
-abbrev pub choose : Bool → Answer → Answer → Answer
-choose true refused other = refused
-choose false refused other = other
-
 -- Order: 10, 11, 9, 1 (low, high), 2, 3, 4 (A, B), 5 (A, B), 6, then elements by place; a call is asked only the questions for
 -- inputs it has. Each call lists its own in this order: the first that is given is the answer.
 unfoldable pub answerOf : List Question → Answer
 answerOf [] = Done
-answerOf (q ∷ qs) = choose (q .given) (No (q .number) (q .place)) (answerOf qs)
+answerOf (q ∷ qs) = cond (q .given) (No (q .number) (q .place)) (answerOf qs)
 
 -- A refusal returns its number and a place; 0 and 0 where the call is done.
 abbrev pub numberOf : Answer → ℕ
