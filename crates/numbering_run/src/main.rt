@@ -44,56 +44,32 @@ fn text(words: &[u8]) {
     io::write_all(STDOUT_FILENO, words);
 }
 
-fn number(n: u32) {
+fn number(words: &[u8], n: u32) {
+    text(words);
     io::print_decimal(STDOUT_FILENO, n as u64);
 }
 
-// Tries `count` indices with both signs, and says how many came back.
-fn tried(
-    words: &[u8],
-    dimension: u32,
-    pulses: u32,
-    first: u32,
-    step: u32,
-    count: u32,
-    v: &mut [i32],
-) {
-    let found = came_back(dimension, pulses, first, step, count, v);
-    text(words);
-    text(b": ");
-    number(found);
-    text(b" of ");
-    number(std::num::wrapping_add_u32(count, count));
-    text(b" there and back\n");
-}
-
-fn of_regular_b(v: &mut [i32]) {
-    tried(b"(6,1) every index", 6, 1, 0, 1, 6, v);
-}
-
-fn of_regular_a(v: &mut [i32]) {
-    tried(b"(10,10) low end", 10, 10, 0, 1, 8, v);
-    tried(b"(10,10) high end", 10, 10, 2389996, 1, 8, v);
-    tried(b"(10,10) every 601st", 10, 10, 0, 601, 3977, v);
-}
-
-fn of_outlier_near(v: &mut [i32]) {
-    tried(b"(16,8) low end", 16, 8, 0, 1, 8, v);
-    tried(b"(16,8) high end", 16, 8, 15158264, 1, 8, v);
-    tried(b"(16,8) every 3793rd", 16, 8, 0, 3793, 3997, v);
-}
-
-fn of_outlier_far(v: &mut [i32]) {
-    tried(b"(16,6) low end", 16, 6, 0, 1, 8, v);
-    tried(b"(16,6) high end", 16, 6, 774904, 1, 8, v);
-    tried(b"(16,6) every 193rd", 16, 6, 0, 193, 4016, v);
+fn set(words: &[u8], dimension: u32, pulses: u32) {
+    number(words, dimension);
+    number(b",", pulses);
+    text(b")");
 }
 
 fn refusal(no: u32, place: usize) {
-    text(b": no ");
-    number(no);
+    number(b": no ", no);
     text(b" at ");
     io::print_decimal(STDOUT_FILENO, place as u64);
+}
+
+// Tries `count` indices with both signs, and says how many came back.
+fn tried(dimension: u32, pulses: u32, first: u32, step: u32, count: u32, v: &mut [i32]) {
+    let found = came_back(dimension, pulses, first, step, count, v);
+    set(b"(", dimension, pulses);
+    number(b" from ", first);
+    number(b" by ", step);
+    number(b": ", found);
+    number(b" of ", std::num::wrapping_add_u32(count, count));
+    text(b" there and back\n");
 }
 
 // How many elements are 7.
@@ -110,44 +86,42 @@ fn sevens(v: &[i32]) -> u32 {
 }
 
 // What unpack answers, and how many elements of a vector that held only 7 still do.
-fn unpacked(words: &[u8], dimension: u32, pulses: u32, sign: u32, index: u32, v: &mut [i32]) {
-    text(b"unpack ");
-    text(words);
+fn unpacked(dimension: u32, pulses: u32, sign: u32, index: u32, v: &mut [i32]) {
+    set(b"unpack (", dimension, pulses);
+    number(b" sign ", sign);
+    number(b" index ", index);
     match unpack(dimension, pulses, sign, index, v) {
         Answer::Done => text(b": done"),
         Answer::No(no, place) => refusal(no, place),
     }
-    text(b", ");
-    number(sevens(v));
-    text(b" kept\n");
+    number(b", kept ", sevens(v));
+    text(b"\n");
 }
 
-fn with_six_places(v: &mut [i32]) {
-    unpacked(b"(6,1) index 6", 6, 1, 0, 6, v);
-    unpacked(b"(6,1) sign 2, index 6", 6, 1, 2, 6, v);
-}
-
-fn with_ten_places(v: &mut [i32]) {
-    unpacked(b"(10,10) index 2390004", 10, 10, 0, 2390004, v);
-    unpacked(b"(6,1) ten places, sign 2", 6, 1, 2, 6, v);
-    unpacked(b"(16,10) ten places, sign 2", 16, 10, 2, 6, v);
-}
-
-fn with_sixteen_places(v: &mut [i32]) {
-    unpacked(b"(16,8) index 15158272", 16, 8, 1, 15158272, v);
-    unpacked(b"(16,6) index 774912", 16, 6, 1, 774912, v);
+// A pair of its size: the first index and sign that are refused, then six indices from each end, and a spread.
+fn pair(dimension: u32, pulses: u32, size: u32, step: u32, count: u32, v: &mut [i32]) {
+    unpacked(dimension, pulses, 1, size, v);
+    unpacked(dimension, pulses, 2, 0, v);
+    tried(dimension, pulses, 0, 1, 6, v);
+    tried(
+        dimension,
+        pulses,
+        std::num::wrapping_sub_u32(size, 6),
+        1,
+        6,
+        v,
+    );
+    tried(dimension, pulses, 0, step, count, v);
 }
 
 // What pack answers.
 fn packed(words: &[u8], dimension: u32, pulses: u32, v: &[i32]) {
-    text(b"pack ");
+    set(b"pack (", dimension, pulses);
     text(words);
     match pack(dimension, pulses, v) {
         Packed::At(index, sign) => {
-            text(b": index ");
-            number(index);
-            text(b" sign ");
-            number(sign);
+            number(b": index ", index);
+            number(b" sign ", sign);
         }
         Packed::No(no, place) => refusal(no, place),
     }
@@ -155,23 +129,22 @@ fn packed(words: &[u8], dimension: u32, pulses: u32, v: &[i32]) {
 }
 
 fn packs() {
-    packed(b"(10,10) zeros", 10, 10, &[0; 10]);
-    packed(b"(6,1) zeros", 6, 1, &[0; 6]);
-    packed(b"(6,1) least i32", 6, 1, &[-2147483648, 0, 0, 0, 0, 0]);
-    packed(b"(16,8) least i32 everywhere", 16, 8, &[-2147483648; 16]);
-    packed(b"(6,1) two pulses", 6, 1, &[0, 1, 0, -1, 0, 0]);
-    packed(b"(6,1) ten places", 6, 1, &[0; 10]);
-    packed(b"(10,6) ten places", 10, 6, &[0; 10]);
-    packed(b"(6,1) -1 at place 5", 6, 1, &[0, 0, 0, 0, 0, -1]);
+    packed(b" zeros", 10, 10, &[0; 10]);
+    packed(b" zeros", 6, 1, &[0; 6]);
+    packed(b" least i32", 6, 1, &[-2147483648, 0, 0, 0, 0, 0]);
+    packed(b" least i32 everywhere", 16, 8, &[-2147483648; 16]);
+    packed(b" two pulses", 6, 1, &[0, 1, 0, -1, 0, 0]);
+    packed(b" ten places", 6, 1, &[0; 10]);
+    packed(b" ten places", 10, 6, &[0; 10]);
+    packed(b" -1 at place 5", 6, 1, &[0, 0, 0, 0, 0, -1]);
 }
 
 fn main() {
-    of_regular_b(&mut [0; 6]);
-    of_regular_a(&mut [0; 10]);
-    of_outlier_near(&mut [0; 16]);
-    of_outlier_far(&mut [0; 16]);
-    with_six_places(&mut [7; 6]);
-    with_ten_places(&mut [7; 10]);
-    with_sixteen_places(&mut [7; 16]);
+    pair(6, 1, 6, 1, 6, &mut [7; 6]);
+    pair(10, 10, 2390004, 601, 3977, &mut [7; 10]);
+    pair(16, 8, 15158272, 3793, 3997, &mut [7; 16]);
+    pair(16, 6, 774912, 193, 4016, &mut [7; 16]);
+    unpacked(6, 1, 2, 6, &mut [7; 10]);
+    unpacked(16, 10, 2, 6, &mut [7; 10]);
     packs();
 }
