@@ -1,0 +1,144 @@
+//! The inputs of the comparison and of the bench: sixteen factors at a time, by named distributions, the same on every
+//! run. Every factor is finite and within plus or minus 64.
+#![allow(dead_code)]
+use lc3::tables::spec_noise_shape_quant_tables::{D, HFCB, LFCB, SNS_VQ_FAR_ADJ_GAINS};
+
+pub type Factors = [f32; 16];
+
+pub struct Distribution {
+    pub name: &'static str,
+    draw: fn(&mut Source) -> Factors,
+}
+
+impl Distribution {
+    /// The first `count` inputs. The seed is the name, so a distribution does not move when another is added.
+    pub fn inputs(&self, count: usize) -> impl Iterator<Item = Factors> + '_ {
+        let seed = self.name.bytes().fold(14695981039346656037, |h: u64, b| (h ^ b as u64).wrapping_mul(1099511628211));
+        let mut source = Source(seed);
+        (0..count).map(move |_| (self.draw)(&mut source).map(|x| x.clamp(-64.0, 64.0)))
+    }
+}
+
+pub const ALL: &[Distribution] = &[
+    Distribution { name: "uniform to 64", draw: |s| s.each(|s| 64.0 * s.signed()) },
+    Distribution { name: "uniform to 4", draw: |s| s.each(|s| 4.0 * s.signed()) },
+    Distribution { name: "uniform to 1", draw: |s| s.each(|s| s.signed()) },
+    Distribution { name: "gaussian 16", draw: |s| s.each(|s| 16.0 * s.gaussian()) },
+    Distribution { name: "gaussian 2", draw: |s| s.each(|s| 2.0 * s.gaussian()) },
+    Distribution { name: "gaussian 0.1", draw: |s| s.each(|s| 0.1 * s.gaussian()) },
+    Distribution { name: "slow curve", draw: slow_curve },
+    Distribution { name: "code rows", draw: code_rows },
+    Distribution { name: "code rows, ulps off", draw: |s| { let x = code_rows(s); ulps_off(s, x) } },
+    Distribution { name: "code rows, near", draw: |s| { let x = code_rows(s); x.map(|v| v + 0.01 * s.gaussian()) } },
+    Distribution { name: "between two rows", draw: between_rows },
+    Distribution { name: "code rows and pulses", draw: rows_and_pulses },
+    Distribution { name: "zeros of both signs", draw: |s| s.each(|s| s.pick(&[0.0, -0.0])) },
+    Distribution { name: "few places not zero", draw: |s| s.each(|s| if s.below(6) == 0 { 8.0 * s.signed() } else { 0.0 }) },
+    Distribution { name: "equal values", draw: |s| [s.power() * s.signed(); 16] },
+    Distribution { name: "denormals", draw: |s| s.each(|s| f32::from_bits((s.next() as u32) & 0x807f_ffff)) },
+    Distribution { name: "every size", draw: |s| s.each(|s| s.power() * s.signed()) },
+    Distribution { name: "eighths", draw: |s| { let most = s.pick(&[8, 64, 512]); s.each(|s| s.below(2 * most + 1) as f32 / 8.0 - most as f32 / 8.0) } },
+    Distribution { name: "ends of the range", draw: |s| { let x = s.each(|s| s.pick(&[64.0, -64.0])); ulps_off(s, x) } },
+    Distribution { name: "corners, ulps off", draw: |s| { let x = s.pick(CORNERS).1.map(f32::from_bits); ulps_off(s, x) } },
+];
+
+/// The uniform inputs of one scale, for timing.
+pub fn timed(scale: usize) -> Vec<Factors> {
+    let name = format!("uniform to {scale}");
+    ALL.iter().find(|d| d.name == name).expect("a scale of the list").inputs(100_000).collect()
+}
+
+/// Single inputs that random ones do not meet, as f32 bits.
+pub const CORNERS: &[(&str, [u32; 16])] = &[
+    ("two code rows at the least distance", [
+        0xc277b95d, 0x41932fc2, 0x422d47fb, 0xc242affc, 0x42121867, 0xc1127670, 0xc1a03040, 0x421897ea,
+        0xc1f16dc3, 0xc1d99061, 0x4133a011, 0x4253a507, 0xc261f047, 0x4109cce0, 0x41d5905b, 0xc1db0e46,
+    ]),
+    ("two candidates at the least distortion", [
+        0x427fffff, 0xc2800000, 0xc2800000, 0x427ffffe, 0xc2800000, 0xc2800000, 0xc27fffff, 0xc27fffff,
+        0x42800000, 0x42800000, 0x42800000, 0x427fffff, 0xc27ffffe, 0x42800000, 0x427fffff, 0x42800000,
+    ]),
+    ("a carried pair below zero", [
+        0x4015e58d, 0xc0ddffa6, 0x4103b544, 0xc1410367, 0x411e3fad, 0xc1149d0a, 0x410450aa, 0x3fa084c1,
+        0xbfe7ebb8, 0x40c582ff, 0xc11daae7, 0x4120d090, 0xc13c7ccc, 0x4107b8af, 0xc0dddb37, 0x3fa3b712,
+    ]),
+    ("no target from place 10 on, another shape", [
+        0x4024f9a3, 0x402ccd71, 0x3fb4c39c, 0xbefcb1ac, 0xbfae5a99, 0xbf897df6, 0xbf3e7e3e, 0xbf581c48,
+        0xbf673617, 0xbeb460c0, 0x3f103ece, 0x3f9f4836, 0x3fc551a4, 0x3f9a8799, 0xbe047f2e, 0xc002a62f,
+    ]),
+    ("no target from place 10 on, the same shape", [
+        0xbf0f3a4f, 0xbd72463f, 0xbeba7dd4, 0xbfdea672, 0xbfda38eb, 0x3de37813, 0x40012738, 0x403287ab,
+        0xbfb0dc9e, 0xbf4c5a92, 0x3e237112, 0x3facb748, 0x3fad590d, 0x3e56f111, 0x3d88b39f, 0x3f2da0d0,
+    ]),
+];
+
+/// Random numbers by splitmix64.
+pub struct Source(u64);
+
+impl Source {
+    fn next(&mut self) -> u64 {
+        self.0 = self.0.wrapping_add(0x9e37_79b9_7f4a_7c15);
+        let z = (self.0 ^ (self.0 >> 30)).wrapping_mul(0xbf58_476d_1ce4_e5b9);
+        let z = (z ^ (z >> 27)).wrapping_mul(0x94d0_49bb_1331_11eb);
+        z ^ (z >> 31)
+    }
+
+    fn below(&mut self, n: u64) -> u64 {
+        self.next() % n
+    }
+
+    fn pick<T: Copy>(&mut self, of: &[T]) -> T {
+        of[self.below(of.len() as u64) as usize]
+    }
+
+    /// From -1 up to, but not, 1.
+    fn signed(&mut self) -> f32 {
+        (self.next() >> 40) as f32 / 8388608.0 - 1.0
+    }
+
+    /// A sum of twelve uniform values, near enough to a gaussian of deviation 1 and with no call of a library.
+    fn gaussian(&mut self) -> f32 {
+        (0..12).map(|_| 0.5 * self.signed()).sum()
+    }
+
+    /// A power of two from 2^-30 to 64.
+    fn power(&mut self) -> f32 {
+        f32::from_bits((97 + self.below(37) as u32) << 23)
+    }
+
+    fn each(&mut self, mut one: impl FnMut(&mut Source) -> f32) -> Factors {
+        std::array::from_fn(|_| one(self))
+    }
+}
+
+fn code_rows(s: &mut Source) -> Factors {
+    let (low, high) = (s.pick(&LFCB), s.pick(&HFCB));
+    std::array::from_fn(|n| if n < 8 { low[n] } else { high[n - 8] })
+}
+
+fn ulps_off(s: &mut Source, x: Factors) -> Factors {
+    x.map(|v| f32::from_bits(v.to_bits().wrapping_add(s.below(7) as u32).wrapping_sub(3)))
+        .map(|v| if v.is_finite() { v } else { 0.0 })
+}
+
+/// Halfway between the codes of two pairs of rows.
+fn between_rows(s: &mut Source) -> Factors {
+    let (a, b) = (code_rows(s), code_rows(s));
+    std::array::from_fn(|n| (a[n] + b[n]) / 2.0)
+}
+
+/// Codes and a few whole pulses at a gain: what the second stage meets exactly, or nearly.
+fn rows_and_pulses(s: &mut Source) -> Factors {
+    let (code, gain) = (code_rows(s), s.pick(&SNS_VQ_FAR_ADJ_GAINS));
+    let pulses = s.each(|s| s.pick(&[0.0, 0.0, 0.0, 1.0, -1.0, 2.0]));
+    std::array::from_fn(|n| code[n] + gain * (0..16).map(|k| pulses[k] * D[n][k]).sum::<f32>())
+}
+
+/// A curve without jumps, as a spectrum gives it.
+fn slow_curve(s: &mut Source) -> Factors {
+    let mut at = 4.0 * s.signed();
+    s.each(|s| {
+        at += s.signed();
+        at
+    })
+}
