@@ -38,6 +38,13 @@ room (pos (suc d) ∷ v) =
 room (negsuc d ∷ v) =
     under (length v) (pulsesOf v) (suc d + pulsesOf v) (2 * indexOf v + leadSign v) 1 (omega arith) (omega arith) (room v)
 
+-- pushed on by one place, a number is at most both of its signs
+pub pushed-most : (x : ℤ) (i s : ℕ) → pushed x i s ≤ 2 * i + s
+unfolding pushed
+pushed-most (pos zero) i s = omega arith
+pushed-most (pos (suc d)) i s = omega arith
+pushed-most (negsuc d) i s = omega arith
+
 pub index-below : (v : List ℤ) (k : ℕ) → pulsesOf v ≡ k → 0 < k → indexOf v < sizeOf (length v) k
 index-below v zero e h = absurd (omega arith)
 index-below v (suc k) e h =

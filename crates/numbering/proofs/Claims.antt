@@ -1,15 +1,16 @@
 -- The claims of specs/Claims.antt: the theorems of Bijection, put together. Assumes nothing.
 use mathlib.Core.Path.{_≡_, refl, sym, _∙_, ap, subst}
 use mathlib.Core.List.{List, [], _∷_}
-use Prim.Native.Nat.{ℕ, zero, suc, _<_}
+use Prim.Native.Nat.{ℕ, zero, suc, _≤_, _<_}
 use native.Mathlib.Omega.{arith}
 use lib.IntN.{ℤ, pos, negsuc}
 use lib.ListN.{length, getD}
-use Rattle.sns_tables.specs.Offsets.{sizeOf}
+use Rattle.sns_tables.specs.Offsets.{offsetOf, sizeOf}
 use Rattle.shapes.proofs.Sizes.{size-regular-a, size-regular-b, size-near, size-far}
-use Rattle.numbering.specs.Numbering.{PulseVector, signBefore, leadSign, indexOf, signed, vectorAt}
-use Rattle.numbering.specs.Claims.{Once, OneToOne, Claim, RegularA, RegularB, OutlierNear, OutlierFar, LeadSign}
-use Rattle.numbering.proofs.Bijection.{sign-below, index-below, Unpacks, unpacks, repacks}
+use Rattle.numbering.specs.Numbering.{pulsesOf, PulseVector, signBefore, leadSign, indexOf, signed, vectorAt}
+use Rattle.numbering.specs.Claims.{Once, OneToOne, Claim, RegularA, RegularB, OutlierNear, OutlierFar, LeadSign, MoreFirst}
+use Rattle.numbering.proofs.Offsets.{mono}
+use Rattle.numbering.proofs.Bijection.{sign-below, room, pushed-most, index-below, Unpacks, unpacks, repacks}
 
 module _ (n k : ℕ) (h : 0 < k) where
   comes-back : (v : List ℤ) → PulseVector n k v → vectorAt n k (leadSign v) (indexOf v) ≡ v
@@ -61,3 +62,11 @@ lead-sign [] p s d a h z e = absurd (omega arith)
 lead-sign (x ∷ v) zero s d a h z e = here x s d (leadSign v) a e
 lead-sign (x ∷ v) (suc p) s d a h z e =
     rw (z 0 (omega arith)) (lead-sign v p s d a (omega arith) (λ j l. z (suc j) (omega arith)) e)
+
+pub more-first : MoreFirst
+unfolding indexOf pulsesOf
+more-first n k x y u v p q h =
+    let l : length u ≡ length v = omega (arith, p .places, q .places) in
+    let a : offsetOf (length u) (suc (pulsesOf u)) ≤ offsetOf (length u) (pulsesOf v) = mono (length u) (suc (pulsesOf u)) (pulsesOf v) (omega (arith, p .pulses, q .pulses)) in
+    let b : offsetOf (length v) (pulsesOf v) ≡ offsetOf (length u) (pulsesOf v) = rw l in
+    omega (arith, room u, pushed-most x (indexOf u) (leadSign u))

@@ -33,13 +33,6 @@ below-top n k h l = omega (arith, mono-rows n 15 k h, mono 15 k 11 l, top)
 fits-word : (v : List ℤ) → length v ≤ 15 → pulsesOf v ≤ 10 → offsetOf (length v) (pulsesOf v) + (2 * indexOf v + leadSign v) < 4294967296
 fits-word v h k = omega (arith, room v, below-top (length v) (suc (pulsesOf v)) h (omega arith))
 
--- the number so far, pushed on by one place, is at most both of its signs
-pub pushed-most : (x : ℤ) (i s : ℕ) → pushed x i s ≤ 2 * i + s
-unfolding pushed
-pushed-most (pos zero) i s = omega arith
-pushed-most (pos (suc d)) i s = omega arith
-pushed-most (negsuc d) i s = omega arith
-
 -- what the loop knows before a place, and what it has after it
 module _ (v : List ℤ) (at i s k : ℕ) (h : 0 < at) (l : at ≤ length v) (hi : i ≡ indexOf (drop at v)) (hs : s ≡ leadSign (drop at v))
     (hk : k ≡ pulsesOf (drop at v)) where

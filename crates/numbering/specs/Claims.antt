@@ -1,8 +1,8 @@
 -- What is claimed of the numbering, once over dimension and pulse count. The proofs are in proofs/Claims.antt.
 use mathlib.Core.Path.{_≡_}
-use mathlib.Core.List.{List}
+use mathlib.Core.List.{List, _∷_}
 use Prim.Native.Nat.{ℕ, suc, _<_}
-use lib.IntN.{ℤ, pos}
+use lib.IntN.{ℤ, pos, natAbs}
 use lib.ListN.{length, getD}
 use Rattle.sns_tables.specs.Offsets.{sizeOf}
 use Rattle.numbering.specs.Numbering.{PulseVector, leadSign, indexOf, signed, vectorAt}
@@ -64,3 +64,7 @@ OutlierFar = OneToOne 16 6 774912
 -- the lead sign, by places: suc d pulses of sign s stand at the lowest place that is not zero
 abbrev pub LeadSign : Type 0
 LeadSign = (v : List ℤ) (p s d : ℕ) → s < 2 → p < length v → ((j : ℕ) → j < p → getD v j (pos 0) ≡ pos 0) → getD v p (pos 0) ≡ signed s (suc d) → leadSign v ≡ s
+
+-- the order: of two vectors with as many places and pulses, the one with more pulses at the first place comes first
+abbrev pub MoreFirst : Type 0
+MoreFirst = (n k : ℕ) (x y : ℤ) (u v : List ℤ) → PulseVector n k (x ∷ u) → PulseVector n k (y ∷ v) → natAbs y < natAbs x → indexOf (x ∷ u) < indexOf (y ∷ v)

@@ -1,19 +1,33 @@
 -- What is claimed of the public calls. The proofs are in proofs/Claims.antt.
 use mathlib.Core.Path.{_≡_}
-use mathlib.Core.Bool.{true}
-use mathlib.Core.List.{List}
+use mathlib.Core.Bool.{true, not}
+use mathlib.Core.List.{List, _∷_, _++_}
 use Prim.Native.Nat.{ℕ, _<_}
+use lib.Dec.{T}
 use lib.IntN.{ℤ}
 use lib.ListN.{length}
+use Rattle.list_laws.specs.Every.{every}
 use Rattle.sns_tables.specs.Offsets.{sizeOf}
 use Rattle.shapes.specs.Sets.{paired}
 use Rattle.numbering.specs.Numbering.{PulseVector, vectorAt}
 use Rattle.sns.specs.declared.Answer.{Answer}
-use Rattle.sns.specs.declared.Answer.the-variants.{Done}
+use Rattle.sns.specs.declared.Answer.the-variants.{Done, No}
 use Rattle.sns.specs.declared.pack.Packed.{Packed}
 use Rattle.sns.specs.declared.pack.Packed.the-variants.{At}
+use Rattle.sns.specs.Answers.{Question, ask, answerOf}
 use Rattle.sns.specs.Unpack.{unpackAnswer, UnpackSays}
 use Rattle.sns.specs.Pack.{packAnswer}
+
+-- a question of this number and place is given, and none before it
+pub record FirstGiven (qs : List Question) (number place : ℕ) : Type 0 where
+  pub before : List Question
+  pub after : List Question
+  pub split : qs ≡ before ++ ask number place true ∷ after
+  pub none-before : T (every (λ (q : Question). not (q .given)) before)
+
+-- whatever the questions: a call is refused with the first that is given, always then and only then
+abbrev pub RefusedExactly : Type 0
+RefusedExactly = (qs : List Question) (number place : ℕ) → (FirstGiven qs number place → answerOf qs ≡ No number place) × (answerOf qs ≡ No number place → FirstGiven qs number place)
 
 -- two results of unpack that its statement allows are equal, and so are the buffers
 abbrev pub UnpackPinned : Type 0

@@ -11,7 +11,8 @@ use mir.Val.{toZ, ofZ}
 use mir.Facts.{toZ-ofZ}
 use Rattle.sns_tables.specs.Offsets.{offsetOf}
 use Rattle.numbering.specs.Numbering.{pulsesOf, signBefore, leadSign, pushed, indexOf}
-use Rattle.numbering.proofs.Suffix.{fewer, pushed-most, more-index, more-sign, more-pulses, more-fits}
+use Rattle.numbering.proofs.Bijection.{pushed-most}
+use Rattle.numbering.proofs.Suffix.{fewer, more-index, more-sign, more-pulses, more-fits}
 use Rattle.numbering.proofs.mvpq_enum.Statement.{statement}
 use Rattle.numbering.proofs.mvpq_enum.Tie as tie
 
