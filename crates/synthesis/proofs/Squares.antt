@@ -28,7 +28,7 @@ unfolding squaresOf
 squares-append [] w = sym (zero-add (squaresOf w))
 squares-append (y ∷ v) w = rw (squares-append v w) (joined (natAbs y * natAbs y) (squaresOf v) (squaresOf w))
 
-pulses-append : (v w : List ℤ) → pulsesOf (v ++ w) ≡ pulsesOf v + pulsesOf w
+pub pulses-append : (v w : List ℤ) → pulsesOf (v ++ w) ≡ pulsesOf v + pulsesOf w
 unfolding pulsesOf
 pulses-append [] w = sym (zero-add (pulsesOf w))
 pulses-append (y ∷ v) w = rw (pulses-append v w) (joined (natAbs y) (pulsesOf v) (pulsesOf w))

@@ -1,1 +1,2 @@
 pub mod Synthesis
+pub mod Claims
