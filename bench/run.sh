@@ -9,7 +9,7 @@ command -v valgrind >/dev/null || { echo "no instruction count: valgrind is miss
 
 # instructions of 2000 calls at scale 64
 instructions() {
-    valgrind --tool=callgrind --callgrind-out-file=/dev/null "target/rust/$(basename "$driver" .rs)-$crate" count "$1" 2>&1 | sed -n 's/.*Collected : //p'
+    valgrind --tool=callgrind --callgrind-out-file=/dev/null "target/rust/$(echo "${driver%.rs}" | tr / -)" count "$1" 2>&1 | sed -n 's/.*Collected : //p'
 }
 none=$(instructions none) ours=$(instructions ours) rust=$(instructions rust)
 echo "instructions a call: ours $(((ours - none) / 2000)), the Rust $(((rust - none) / 2000))"

@@ -1,4 +1,5 @@
 //! Two functions timed on the same inputs: processor time, rounds interleaved, the best and the median of the rounds.
+use crate::calls::{bits, Answer, Call};
 use crate::inputs::{timed, Factors};
 use std::hint::black_box;
 
@@ -20,28 +21,6 @@ fn processor_time() -> f64 {
     now.seconds as f64 * 1e9 + now.nanoseconds as f64
 }
 
-/// What a call leaves: a number and up to two buffers.
-#[derive(Default)]
-pub struct Answer {
-    pub number: u64,
-    pub first: Factors,
-    pub second: Factors,
-}
-
-impl Answer {
-    fn bits(&self) -> (u64, [u32; 16], [u32; 16]) {
-        (self.number, self.first.map(f32::to_bits), self.second.map(f32::to_bits))
-    }
-}
-
-pub type Call = fn(&Factors, &mut Answer);
-
-fn answer(call: Call, x: &Factors) -> Answer {
-    let mut answer = Answer::default();
-    call(x, &mut answer);
-    answer
-}
-
 /// Nanoseconds a call.
 fn round(call: Call, inputs: &[Factors]) -> f64 {
     let mut answer = Answer::default();
@@ -56,7 +35,7 @@ fn round(call: Call, inputs: &[Factors]) -> f64 {
 /// Prints both times in nanoseconds a call, and the ratio of ours to the Rust's.
 fn compare(what: &str, inputs: &[Factors], ours: Call, rust: Call) {
     const ROUNDS: usize = 21;
-    let differ = inputs.iter().filter(|x| answer(ours, x).bits() != answer(rust, x).bits()).count();
+    let differ = inputs.iter().filter(|x| bits(ours, x) != bits(rust, x)).count();
     assert_eq!(differ, 0, "{what}: {differ} of {} answers differ", inputs.len());
     let (mut a, mut b): (Vec<f64>, Vec<f64>) = (0..ROUNDS).map(|_| (round(ours, inputs), round(rust, inputs))).unzip();
     a.sort_by(f64::total_cmp);

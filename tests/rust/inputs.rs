@@ -1,6 +1,7 @@
-//! The inputs of the comparison and of the bench: sixteen factors at a time, by named distributions, the same on every
-//! run. Every factor is finite and within plus or minus 64.
+//! The inputs of the comparison and of the bench: sixteen factors at a time, by named distributions, and fields of the
+//! decoder; the same on every run. Every factor is finite and within plus or minus 64; every field is one that is taken.
 #![allow(dead_code)]
+use lc3::decoder::side_info::SnsVq;
 use lc3::tables::spec_noise_shape_quant_tables::{D, HFCB, LFCB, SNS_VQ_FAR_ADJ_GAINS};
 
 pub type Factors = [f32; 16];
@@ -48,11 +49,40 @@ pub fn timed(scale: usize) -> Vec<Factors> {
     ALL.iter().find(|d| d.name == name).expect("a scale of the list").inputs(100_000).collect()
 }
 
+/// Fields of the decoder, without end: the four shapes in turn, with every gain that the shape has. Indices lie anywhere, or
+/// near either end. In shapes 1 to 3 the fields of set B, which nobody looks at, are filled as well.
+pub fn fields() -> impl Iterator<Item = SnsVq> {
+    let mut s = Source(6);
+    (0..4).cycle().map(move |shape| {
+        let size = [2390004, 2390004, 15158272, 774912][shape];
+        let near = s.below(4);
+        SnsVq {
+            ind_lf: s.below(32) as usize,
+            ind_hf: s.below(32) as usize,
+            ls_inda: s.below(2) as usize,
+            ls_indb: s.below(2) as usize,
+            idx_a: match s.below(8) {
+                0 => near as usize,
+                1 => size - 1 - near as usize,
+                _ => s.below(size as u64) as usize,
+            },
+            idx_b: s.below(6) as usize,
+            submode_lsb: (shape % 2) as u8,
+            submode_msb: (shape / 2) as u8,
+            g_ind: s.below([2, 4, 4, 8][shape]) as usize,
+        }
+    })
+}
+
 /// Single inputs that random ones do not meet, as f32 bits.
 pub const CORNERS: &[(&str, [u32; 16])] = &[
     ("two code rows at the least distance", [
         0xc277b95d, 0x41932fc2, 0x422d47fb, 0xc242affc, 0x42121867, 0xc1127670, 0xc1a03040, 0x421897ea,
         0xc1f16dc3, 0xc1d99061, 0x4133a011, 0x4253a507, 0xc261f047, 0x4109cce0, 0x41d5905b, 0xc1db0e46,
+    ]),
+    ("two code rows at the least distance, whole", [
+        0x00000000, 0x00000000, 0x00000000, 0x00000000, 0x00000000, 0x00000000, 0x00000000, 0x00000000,
+        0xc1100000, 0x42100000, 0xc2380000, 0x42680000, 0xc0c00000, 0xc2000000, 0x41a80000, 0xc1700000,
     ]),
     ("two candidates at the least distortion", [
         0x427fffff, 0xc2800000, 0xc2800000, 0x427ffffe, 0xc2800000, 0xc2800000, 0xc27fffff, 0xc27fffff,

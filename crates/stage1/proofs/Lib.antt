@@ -1,4 +1,5 @@
 pub mod Codes
 pub mod Whole
 pub mod Nearest
-pub mod Sizes
+pub mod Residual
+mod Tied

@@ -1,15 +1,16 @@
 -- What is claimed of stage 1. Each claim is proved in proofs/, under its name in small letters. Definitions only.
 use mathlib.Core.Path.{_≡_}
 use mathlib.Core.Bool.{not}
-use mathlib.Core.List.{List}
+use mathlib.Core.List.{List, [], _∷_}
 use Prim.Native.Nat.{ℕ, _+_, _^_, _≤_, _<_}
 use lib.Dec.{T}
 use lib.ListN.{getD}
-use lib.Ieee.{Float, nan, isNan}
+use lib.Ieee.{Float, nan, isNan, binary32, sub}
+use Rattle.float_laws.specs.Decimal.{plus, minus}
 use Rattle.float_laws.specs.Kind.{finite}
 use Rattle.float_laws.specs.Size.{Within}
 use Rattle.float_laws.specs.Least.{FirstLeast}
-use Rattle.stage1.specs.Stage1.{lowDistance, highDistance, lowRow, highRow, residual}
+use Rattle.stage1.specs.Stage1.{lowDistance, highDistance, lowRow, highRow, codes, residual}
 
 -- sixteen finite factors
 abbrev pub Finite : List Float → Type 0
@@ -40,3 +41,17 @@ High-only = (x : List Float) → Finite x → (row : ℕ) → FirstLeast (highDi
 -- factors within a limit leave residuals within the limit and 5, for any limit that leaves room for that in an f32's digits
 abbrev pub Residual-within : Type 0
 Residual-within = (limit : ℕ) → limit + 5 ≤ 2 ^ 24 → (x : List Float) → Limited limit x → (n : ℕ) → n < 16 → Within (getD (residual x) n nan) (limit + 5) 1
+
+-- residual = factor minus code, place by place
+abbrev pub Residual-is : Type 0
+Residual-is = (x : List Float) (n : ℕ) → n < 16 → getD (residual x) n nan ≡ sub binary32 (getD x n nan) (getD (codes x) n nan)
+
+-- factors for which two rows of the high half are at the least distance
+unfoldable pub tied : List Float
+tied =
+    plus 0 0 ∷ plus 0 0 ∷ plus 0 0 ∷ plus 0 0 ∷ plus 0 0 ∷ plus 0 0 ∷ plus 0 0 ∷ plus 0 0 ∷
+    minus 9 0 ∷ plus 36 0 ∷ minus 46 0 ∷ plus 58 0 ∷ minus 6 0 ∷ minus 32 0 ∷ plus 21 0 ∷ minus 15 0 ∷ []
+
+-- the first of them is taken
+abbrev pub Tie : Type 0
+Tie = (highDistance tied 10 ≡ highDistance tied 29) × (highRow tied ≡ 10)

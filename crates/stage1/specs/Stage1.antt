@@ -13,7 +13,7 @@ use Rattle.stage1.specs.declared.SnsStage1Result.{SnsStage1Result}
 abbrev pub squared : Float → Float
 squared e = mul binary32 e e
 
--- add the squares of factor minus code over 8 places, from 0.0, ascending
+-- for a row, add the squares of factor minus code over 8 places, from 0.0, ascending
 unfoldable pub distance : (ℕ → Float) → (ℕ → Float) → Float
 distance factor code = sumTo (λ place. squared (sub binary32 (factor place) (code place))) 8
 
@@ -29,7 +29,7 @@ lowDistance x row = distance (half x 0) (codeAt lfcbRows row)
 abbrev pub highDistance : List Float → ℕ → Float
 highDistance x row = distance (half x 8) (codeAt hfcbRows row)
 
--- for rows 0 to 31, the first strictly smallest wins
+-- of rows 0 to 31, the first strictly smallest wins
 unfoldable pub lowRow : List Float → ℕ
 lowRow x = leastTo (lowDistance x) 31
 
