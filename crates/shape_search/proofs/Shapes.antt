@@ -13,7 +13,7 @@ use Rattle.pulse_search.specs.declared.SearchRecord.{SearchRecord}
 use Rattle.pulse_search.specs.Pulse.{Search, start, more, totalTo, upTo}
 use Rattle.shape_search.specs.Projection.{termsOf, projection, begunOf}
 use Rattle.shape_search.specs.declared.Start.{Start}
-use Rattle.shape_search.specs.Shape.{shape3, shape2, lowOf, dropped, droppedTo, lowered, shape1, largestTo, shape0, pulsesOf}
+use Rattle.shape_search.specs.Shape.{shape3, shape2, lowOf, dropped, droppedTo, lowered, shape1, largestTo, shape0, shapePulses}
 use Rattle.shape_search.proofs.Facts.{three-total}
 
 pub dropped-zero : (r : SearchRecord) (w : ℕ) (x : Float) → w ≡ 0 → r ≡ dropped r w x
@@ -79,6 +79,6 @@ module _ (a : List Float) (y z : List ℕ) (r p : SearchRecord) (k : ℕ) where
 
 -- ---- all four
 pub four-are : (a : List Float) (y0 y1 y2 y3 : List ℕ) (b : ℕ) → y1 ≡ shape1 a .pulses → b ≡ largestTo a 5 → y2 ≡ shape2 a .pulses → y3 ≡ shape3 a .pulses → y0 ≡ y1
-    → set y0 b 1 ∷ y1 ∷ y2 ∷ y3 ∷ [] ≡ listOf 4 (pulsesOf a)
-unfolding listOf pulsesOf shape0
+    → set y0 b 1 ∷ y1 ∷ y2 ∷ y3 ∷ [] ≡ listOf 4 (shapePulses a)
+unfolding listOf shapePulses shape0
 four-are a y0 y1 y2 y3 b e1 eb e2 e3 e0 = rw (e0, e1, eb, e2, e3)

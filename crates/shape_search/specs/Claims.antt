@@ -10,15 +10,15 @@ use Rattle.float_laws.specs.Kind.{finite}
 use Rattle.list_laws.specs.ListOf.{listOf}
 use Rattle.pulse_search.specs.Pulse.{square, pairAt, Search, start, more, totalTo}
 use Rattle.shape_search.specs.Projection.{projection}
-use Rattle.shape_search.specs.Shape.{shape3, shape2, lowered, pulsesOf, squareTo}
+use Rattle.shape_search.specs.Shape.{shape3, shape2, lowered, shapePulses, squareTo}
 
 -- each shape's pulses add up to exactly its count, for every a: ten and one, ten, eight, six
 abbrev pub Totals : Type 0
-Totals = (a : List Float) → listOf 4 (λ s. totalTo (pulsesOf a s) 16) ≡ 11 ∷ 10 ∷ 8 ∷ 6 ∷ []
+Totals = (a : List Float) → listOf 4 (λ s. totalTo (shapePulses a s) 16) ≡ 11 ∷ 10 ∷ 8 ∷ 6 ∷ []
 
 -- of shapes 0 and 1, ten are on places 0 to 9
 abbrev pub LowTotals : Type 0
-LowTotals = (a : List Float) (s : ℕ) → s < 2 → totalTo (pulsesOf a s) 10 ≡ 10
+LowTotals = (a : List Float) (s : ℕ) → s < 2 → totalTo (shapePulses a s) 10 ≡ 10
 
 -- each shape has sixteen places, and a squared length from 1 to 101
 pub record Sound (y : List ℕ) : Type 0 where
@@ -27,7 +27,7 @@ pub record Sound (y : List ℕ) : Type 0 where
   pub few : squareTo y 16 ≤ 101
 
 abbrev pub ShapesSound : Type 0
-ShapesSound = (a : List Float) (s : ℕ) → Sound (pulsesOf a s)
+ShapesSound = (a : List Float) (s : ℕ) → Sound (shapePulses a s)
 
 -- while k single pulses are sought over places 0 to last, every product that is compared is finite
 abbrev pub Compares : List Float → ℕ → ℕ → Search → Type 0

@@ -54,11 +54,11 @@ unfoldable pub shape0 : List Float → List ℕ
 shape0 a = set (shape1 a .pulses) (largestTo a 5) 1
 
 -- a shape's pulses
-unfoldable pub pulsesOf : List Float → ℕ → List ℕ
-pulsesOf a zero = shape0 a
-pulsesOf a (suc zero) = shape1 a .pulses
-pulsesOf a (suc (suc zero)) = shape2 a .pulses
-pulsesOf a (suc (suc (suc s))) = shape3 a .pulses
+unfoldable pub shapePulses : List Float → ℕ → List ℕ
+shapePulses a zero = shape0 a
+shapePulses a (suc zero) = shape1 a .pulses
+shapePulses a (suc (suc zero)) = shape2 a .pulses
+shapePulses a (suc (suc (suc s))) = shape3 a .pulses
 
 -- the squared length of the first n places
 unfoldable pub squareTo : List ℕ → ℕ → ℕ

@@ -12,7 +12,7 @@ ghost use Rattle.float_laws.specs.Running.{sumTo};
 ghost use Rattle.list_laws.specs.ListOf.{listOf};
 ghost use Rattle.pulse_search.specs.Pulse.{start, totalTo};
 ghost use Rattle.shape_search.specs.Projection.{seven, factorOf, projectedOf, joined, joinedTo, someNotFinite, someSeven, zeros, none, projection, begunOf, Absolutes, AllBelowSeven};
-ghost use Rattle.shape_search.specs.Shape.{lowOf, dropped, droppedTo, largestTo, pulsesOf};
+ghost use Rattle.shape_search.specs.Shape.{lowOf, dropped, droppedTo, largestTo, shapePulses};
 use pulse_search::SearchRecord;
 
 // The sum of the absolute values, from 0.0.
@@ -236,7 +236,7 @@ fn largest_high(abs_x: &[f32; 16]) -> usize
 // The pulses of shapes 0 to 3.
 pub fn search_shapes(abs_x: &[f32; 16]) -> [[u8; 16]; 4]
     requires { ⌜ Absolutes (now «abs_x») ⌝ }
-    ensures { λ y. ⌜ y ≡ listOf 4 (pulsesOf (now («abs_x» .entry))) ⌝ }
+    ensures { λ y. ⌜ y ≡ listOf 4 (shapePulses (now («abs_x» .entry))) ⌝ }
 {
     // step 1, shape 3: project to or below six pulses
     let s = project(abs_x);
