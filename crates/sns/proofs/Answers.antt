@@ -1,6 +1,6 @@
 -- The answer to a list of questions, one question at a time. Assumes nothing.
 use mathlib.Core.Path.{_≡_, refl, sym, ap, _∙_, subst}
-use mathlib.Core.Bool.{Bool, true, false, not}
+use mathlib.Core.Bool.{Bool, true, false, not, cond}
 use mathlib.Core.List.{List, [], _∷_, _++_}
 use Prim.Native.Nat.{ℕ}
 use native.Mathlib.Omega.{arith}
@@ -9,7 +9,7 @@ use Rattle.list_laws.specs.Every.{both, every}
 use Rattle.list_laws.proofs.Every.{both-left, both-right}
 use Rattle.sns.specs.declared.Answer.{Answer}
 use Rattle.sns.specs.declared.Answer.the-variants.{Done, No}
-use Rattle.sns.specs.Answers.{Question, ask, choose, answerOf, numberOf, placeOf}
+use Rattle.sns.specs.Answers.{Question, ask, answerOf, numberOf, placeOf}
 use Rattle.sns.specs.Claims.{FirstGiven, RefusedExactly}
 
 pub none-left : Done ≡ answerOf []
@@ -41,7 +41,7 @@ done number place true qs e = absurd (no-not-done number place e)
 
 -- refused: the first question that is given
 
-passed-over : (b : Bool) (refused other : Answer) → T (not b) → choose b refused other ≡ other
+passed-over : (b : Bool) (refused other : Answer) → T (not b) → cond b refused other ≡ other
 passed-over true refused other t = absurd t
 passed-over false refused other t = refl
 
@@ -63,7 +63,7 @@ unfolding answerOf
 first number place [] e = absurd (no-not-done number place (sym e))
 first number place (q ∷ qs) e = go (q .given) refl e (first number place qs)
   where
-    go : (b : Bool) → q .given ≡ b → choose b (No (q .number) (q .place)) (answerOf qs) ≡ No number place
+    go : (b : Bool) → q .given ≡ b → cond b (No (q .number) (q .place)) (answerOf qs) ≡ No number place
         → (answerOf qs ≡ No number place → FirstGiven qs number place) → FirstGiven (q ∷ qs) number place
     go true g z rest =
         record {

@@ -1,5 +1,6 @@
 pub mod Answers
 pub mod Elements
+pub mod Accepted
 pub mod InterpolateAnswers
 pub mod Pairs
 pub mod UnpackAnswers

@@ -1,6 +1,8 @@
 pub mod Answers
 pub mod Elements
 pub mod CheckFactor
+pub mod Fields
+pub mod Decode
 pub mod Interpolate
 pub mod Unpack
 pub mod Pack

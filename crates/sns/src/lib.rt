@@ -1,10 +1,13 @@
 // Spectral noise shaping of LC3: the public calls. Nothing is required of a caller; every call returns on every input, and
 // states its whole answer and every element of each lent buffer. Each call has a file of its own:
 //   check_factor   one factor against the limit
+//   decode         a frame's fields into sixteen factors
 //   interpolate    sixteen factors into 60 or 64 bands
 //   pack           a pulse vector into its index and lead sign
 //   unpack         an index and a lead sign into the pulse vector
 pub mod check_factor;
+pub mod decode;
+pub mod fields;
 pub mod interpolate;
 pub mod pack;
 pub mod unpack;
@@ -30,4 +33,16 @@ fn sixteen(row: &[f32]) -> [f32; 16]
         n += 1;
     }
     copy
+}
+
+// Sixteen values into a lent row of sixteen.
+fn fill(from: [f32; 16], to: &mut [f32])
+    requires { ⌜ length (now to) ≡ 16 ⌝ }
+    ensures { λ _. ⌜ now (to .exit) ≡ from ⌝ }
+{
+    let mut n = 0usize;
+    while n < 16 {
+        to[n] = from[n];
+        n += 1;
+    }
 }

@@ -1,0 +1,34 @@
+-- Decoding fields to sixteen factors. Definitions only.
+use mathlib.Core.Path.{_≡_}
+use mathlib.Core.Bool.{not}
+use mathlib.Core.List.{List, _∷_}
+use Prim.Native.Nat.{ℕ}
+use lib.Dec.{eqb}
+use lib.IntN.{ℤ}
+use lib.ListN.{length}
+use lib.Ieee.{Float}
+use Rattle.decoder_pulses.specs.Pulses.{pulsesAt}
+use Rattle.synthesis.specs.Synthesis.{factorsOf}
+use Rattle.sns.specs.declared.Answer.{Answer}
+use Rattle.sns.specs.declared.fields.Fields.{Fields}
+use Rattle.sns.specs.Answers.{Question, ask, answerOf, kept}
+use Rattle.sns.specs.Fields.{fieldQuestions}
+
+-- 9: a lent buffer has the wrong length (factors 16). Then the fields.
+unfoldable pub decodeQuestions : Fields → ℕ → List Question
+decodeQuestions f len = ask 9 0 (not (eqb len 16)) ∷ fieldQuestions f
+
+abbrev pub decodeAnswer : Fields → ℕ → Answer
+decodeAnswer f len = answerOf (decodeQuestions f len)
+
+-- the sixteen pulses of the fields
+abbrev pub fieldPulses : Fields → List ℤ
+fieldPulses f = pulsesAt (f .shape) (f .«sign_a») (f .«index_a») (f .«sign_b») (f .«index_b»)
+
+-- the sixteen factors of the fields
+abbrev pub fieldFactors : Fields → List Float
+fieldFactors f = factorsOf (f .«low_row») (f .«high_row») (f .shape) (f .gain) (fieldPulses f)
+
+-- the whole result of a call, r, and what the buffer holds at return, new, where it held old
+abbrev pub DecodeSays : Fields → List Float → Answer → List Float → Type 0
+DecodeSays f old r new = (r ≡ decodeAnswer f (length old)) × (new ≡ kept r (fieldFactors f) old)

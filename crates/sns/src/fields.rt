@@ -1,0 +1,78 @@
+// The decoder's fields, and when they are refused.
+use crate::Answer;
+use shapes::PulseSet;
+use shapes::RegularB;
+ghost use mathlib.Core.Path.{_≡_};
+ghost use mathlib.Core.Bool.{_&&_};
+ghost use Prim.Native.Nat.{_<_};
+ghost use lib.Dec.{leb};
+ghost use Rattle.sns_tables.specs.Gains.{gainsOf};
+ghost use Rattle.sns.specs.Answers.{answerOf};
+ghost use Rattle.sns.specs.Fields.{usesB, fieldQuestions};
+
+// A quantized frame: both codebook rows, shape, gain, and the lead signs and indices of sets A and B.
+pub struct Fields {
+    pub low_row: u32,
+    pub high_row: u32,
+    pub shape: u32,
+    pub gain: u32,
+    pub sign_a: u32,
+    pub sign_b: u32,
+    pub index_a: u32,
+    pub index_b: u32,
+}
+
+// How many gains a shape has.
+fn gain_count(shape: u32) -> u32
+    requires { ⌜ shape < 4 ⌝ }
+    ensures { λ r. ⌜ r ≡ gainsOf shape ⌝ }
+{
+    match shape {
+        0 => 2,
+        1 => 4,
+        2 => 4,
+        _ => 8,
+    }
+}
+
+// Set B is in use, and the value is at or above the end.
+fn over_in_b(shape: u32, value: u32, end: u32) -> bool
+    ensures { λ r. ⌜ r ≡ (usesB shape && leb end value) ⌝ }
+{
+    if shape != 0 {
+        return false;
+    }
+    end <= value
+}
+
+// The first refusal of the fields, or Done: 1, 2, 3, 4, 5, asked in this order.
+pub fn field_refusal(f: Fields) -> Answer
+    ensures { λ r. ⌜ r ≡ answerOf (fieldQuestions f) ⌝ }
+{
+    if 31 < f.low_row {
+        return Answer::No(1, 0);
+    }
+    if 31 < f.high_row {
+        return Answer::No(1, 1);
+    }
+    if 3 < f.shape {
+        return Answer::No(2, 0);
+    }
+    if gain_count(f.shape) <= f.gain {
+        return Answer::No(3, 0);
+    }
+    if 2 <= f.sign_a {
+        return Answer::No(4, 0);
+    }
+    if over_in_b(f.shape, f.sign_b, 2) {
+        return Answer::No(4, 1);
+    }
+    let set = PulseSet::new(f.shape as usize);
+    if set.size <= f.index_a {
+        return Answer::No(5, 0);
+    }
+    if over_in_b(f.shape, f.index_b, RegularB::SIZE) {
+        return Answer::No(5, 1);
+    }
+    Answer::Done
+}
