@@ -1,13 +1,10 @@
 -- The claims of specs/Claims.antt: the statements are equations, and the numbering is one to one. Assumes nothing.
 use mathlib.Core.Path.{_≡_, refl, sym, ap, _∙_}
-use mathlib.Core.Bool.{Bool, true, false, not}
-use mathlib.Core.List.{List, []}
 use Prim.Native.Nat.{ℕ}
 use native.Mathlib.Omega.{arith}
 use borrow.Author.Tests.{not-false, leb-false, eqb-true}
-use lib.IntN.{ℤ}
 use lib.ListN.{length}
-use Rattle.numbering.specs.Numbering.{PulseVector, leadSign, indexOf, vectorAt}
+use Rattle.numbering.specs.Numbering.{leadSign, indexOf, vectorAt}
 use Rattle.numbering.proofs.Claims.{claim}
 use Rattle.sns.specs.declared.Answer.{Answer}
 use Rattle.sns.specs.declared.Answer.the-variants.{Done, No}

@@ -1,5 +1,5 @@
 -- The answer of packing, by the questions that led to it. Assumes nothing.
-use mathlib.Core.Path.{_≡_, refl, ap}
+use mathlib.Core.Path.{_≡_, ap}
 use mathlib.Core.Bool.{true, false, not}
 use mathlib.Core.List.{List}
 use Prim.Native.Nat.{ℕ}
@@ -8,7 +8,6 @@ use lib.IntN.{ℤ}
 use lib.ListN.{length}
 use Rattle.shapes.specs.Sets.{paired}
 use Rattle.numbering.specs.Numbering.{pulsesOf, leadSign, indexOf}
-use Rattle.sns.specs.declared.pack.Packed.{Packed}
 use Rattle.sns.specs.declared.pack.Packed.the-variants.{At, No}
 use Rattle.sns.specs.Answers.{answerOf}
 use Rattle.sns.specs.Pack.{packQuestions, packedAs, packAnswer}

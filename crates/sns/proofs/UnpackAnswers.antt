@@ -1,11 +1,10 @@
 -- The answer of unpacking, by the questions that led to it. Assumes nothing.
-use mathlib.Core.Path.{_≡_, refl, ap}
+use mathlib.Core.Path.{_≡_, ap}
 use mathlib.Core.Bool.{true, false, not}
 use Prim.Native.Nat.{ℕ, _≤_, _<_}
 use borrow.Author.Tests.{le-leb, lt-leb, eq-eqb, ne-eqb}
 use Rattle.sns_tables.specs.Offsets.{sizeOf}
 use Rattle.shapes.specs.Sets.{paired}
-use Rattle.sns.specs.declared.Answer.{Answer}
 use Rattle.sns.specs.declared.Answer.the-variants.{Done, No}
 use Rattle.sns.specs.Unpack.{unpackQuestions, unpackAnswer}
 use Rattle.sns.proofs.Answers.{given, not-given, none-left}

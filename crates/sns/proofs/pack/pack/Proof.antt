@@ -1,8 +1,7 @@
 -- Each answer by the questions that led to it.
-use mathlib.Core.Path.{_≡_, refl, sym, ap, ap₂, _∙_}
+use mathlib.Core.Path.{sym, ap₂, _∙_}
 use native.Mathlib.Omega.{arith}
 use borrow.Author.Needs.{needs}
-use lib.ListN.{length}
 use Rattle.sns.specs.declared.pack.Packed.the-variants.{At}
 use Rattle.sns.proofs.Pairs.{SetOf, found-set, found-nothing}
 use Rattle.sns.proofs.PackAnswers.{no-10, no-9, no-6, taken}

@@ -1,8 +1,7 @@
 -- Each answer by the questions that led to it; the buffer is as it was, or what the numbering says.
-use mathlib.Core.Path.{_≡_, refl, sym, ap, _∙_}
+use mathlib.Core.Path.{refl, sym, _∙_}
 use native.Mathlib.Omega.{arith}
 use borrow.Author.Needs.{needs}
-use lib.ListN.{length}
 use Rattle.sns.proofs.Pairs.{SetOf, found-set, found-nothing}
 use Rattle.sns.proofs.UnpackAnswers.{no-10, no-9, no-4, no-5, taken}
 use Rattle.sns.proofs.unpack.unpack.Statement.{statement}
