@@ -136,7 +136,7 @@ after v x ih =
     let b : (2 * indexOf v + leadSign v) / 2 ≡ indexOf v = omega (arith, sign-below v) in
     rw (a, b, ih)
 
-no-pulse : (s : ℕ) → signed s 0 ≡ pos 0
+pub no-pulse : (s : ℕ) → signed s 0 ≡ pos 0
 unfolding signed
 no-pulse zero = refl
 no-pulse (suc s) = refl

@@ -10,6 +10,7 @@ use Rattle.list_laws.proofs.Prefix.{prefix-more, prefix-all}
 use Rattle.sns_tables.specs.Offsets.{offsetOf}
 use Rattle.numbering.specs.Numbering.{columnOf, signed, nextSign, nextIndex, vectorAt}
 use Rattle.numbering.proofs.Columns.{column-zero}
+use Rattle.numbering.proofs.Bijection.{no-pulse}
 
 -- index zero: all pulses stand at the first place
 
@@ -23,11 +24,6 @@ unfolding vectorAt
 at-zero n k s =
     let z : 0 - offsetOf n 0 ≡ 0 = omega arith in
     rw (column-zero n k, sub-zero k, z, next-zero k)
-
-no-pulse : (s : ℕ) → signed s 0 ≡ pos 0
-unfolding signed
-no-pulse zero = refl
-no-pulse (suc s) = refl
 
 all-zero : (n s : ℕ) → vectorAt n 0 s 0 ≡ replicate n (pos 0)
 unfolding vectorAt
