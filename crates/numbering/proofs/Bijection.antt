@@ -1,6 +1,6 @@
 -- Packing and unpacking undo each other, by induction over the places. What carries it: a number keeps its room,
 -- A(n,k) + (2 index + sign) < A(n,k+1). Assumes nothing.
-use mathlib.Core.Path.{_≡_, refl, ap, sym, _∙_}
+use mathlib.Core.Path.{_≡_, refl, ap, _∙_}
 use mathlib.Core.List.{List, [], _∷_}
 use Prim.Native.Nat.{ℕ, zero, suc, _+_, _-_, _*_, _/_, _%_, _≤_, _<_}
 use native.Mathlib.Nat.{zero-add}
@@ -136,7 +136,7 @@ after v x ih =
     let b : (2 * indexOf v + leadSign v) / 2 ≡ indexOf v = omega (arith, sign-below v) in
     rw (a, b, ih)
 
-no-pulse : (s : ℕ) → signed s 0 ≡ pos 0
+pub no-pulse : (s : ℕ) → signed s 0 ≡ pos 0
 unfolding signed
 no-pulse zero = refl
 no-pulse (suc s) = refl

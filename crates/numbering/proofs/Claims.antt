@@ -1,16 +1,16 @@
 -- The claims of specs/Claims.antt: the theorems of Bijection, put together. Assumes nothing.
-use mathlib.Core.Path.{_≡_, refl, sym, _∙_, ap, subst}
+use mathlib.Core.Path.{_≡_, sym, _∙_, ap, subst}
 use mathlib.Core.List.{List, [], _∷_}
 use Prim.Native.Nat.{ℕ, zero, suc, _≤_, _<_}
 use native.Mathlib.Omega.{arith}
-use lib.IntN.{ℤ, pos, negsuc}
-use lib.ListN.{length, getD}
+use lib.IntN.{ℤ}
+use lib.ListN.{length}
 use Rattle.sns_tables.specs.Offsets.{offsetOf, sizeOf}
 use Rattle.shapes.proofs.Sizes.{size-regular-a, size-regular-b, size-near, size-far}
 use Rattle.numbering.specs.Numbering.{pulsesOf, PulseVector, signBefore, leadSign, indexOf, signed, vectorAt}
 use Rattle.numbering.specs.Claims.{Once, OneToOne, Claim, RegularA, RegularB, OutlierNear, OutlierFar, LeadSign, MoreFirst}
 use Rattle.numbering.proofs.Offsets.{mono}
-use Rattle.numbering.proofs.Bijection.{sign-below, room, pushed-most, index-below, Unpacks, unpacks, repacks}
+use Rattle.numbering.proofs.Bijection.{sign-below, room, pushed-most, index-below, unpacks, repacks}
 
 module _ (n k : ℕ) (h : 0 < k) where
   comes-back : (v : List ℤ) → PulseVector n k v → vectorAt n k (leadSign v) (indexOf v) ≡ v

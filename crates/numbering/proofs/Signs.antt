@@ -1,6 +1,6 @@
 -- What the tests `x < 0` and `x == 0` say of an i32. Assumes nothing.
 use mathlib.Core.Path.{_≡_, refl, sym, ap, _∙_}
-use mathlib.Core.Bool.{true, false}
+use mathlib.Core.Bool.{true, false, true≢false}
 use Prim.Native.Nat.{ℕ, zero, suc}
 use native.Mathlib.Omega.{arith}
 use borrow.Author.Tests.{ltb-true}
@@ -16,10 +16,7 @@ below (negsuc d) e = (d, refl)
 
 above : (x : ℤ) → ltZ x (pos 0) ≡ false → (d : ℕ) × (x ≡ pos d)
 above (pos d) e = (d, refl)
-above (negsuc d) e = absurd (let z : true ≡ false = e in differ z)
-  where
-    differ : true ≡ false → ⊥
-    differ z = let q : _≡_ {A = ℕ} 0 1 = cc in omega arith
+above (negsuc d) e = absurd (true≢false e)
 
 pub is-below : (x : ℤ) → SFits w32 x → ltZ (toZ w32 (ofZ w32 x)) (pos 0) ≡ true → (d : ℕ) × (x ≡ negsuc d)
 is-below x f e = below x (rw (toZ-ofZ f) at e)

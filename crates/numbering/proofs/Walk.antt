@@ -1,6 +1,6 @@
 -- Unpacking, place by place: the part that is filled, and the vector that is to come. Assumes nothing.
-use mathlib.Core.Path.{_≡_, refl, ap, sym, _∙_}
-use mathlib.Core.List.{List, [], _∷_, _++_}
+use mathlib.Core.Path.{_≡_, refl, sym, _∙_}
+use mathlib.Core.List.{List, _∷_, _++_}
 use Prim.Native.Nat.{ℕ, zero, suc, _+_, _-_, _≤_, _<_}
 use native.Mathlib.Nat.{sub-zero}
 use native.Mathlib.Omega.{arith}
@@ -9,8 +9,8 @@ use lib.ListN.{length, take, set, length-set, replicate}
 use Rattle.list_laws.proofs.Prefix.{prefix-more, prefix-all}
 use Rattle.sns_tables.specs.Offsets.{offsetOf}
 use Rattle.numbering.specs.Numbering.{columnOf, signed, nextSign, nextIndex, vectorAt}
-use Rattle.numbering.proofs.Offsets.{first}
 use Rattle.numbering.proofs.Columns.{column-zero}
+use Rattle.numbering.proofs.Bijection.{no-pulse}
 
 -- index zero: all pulses stand at the first place
 
@@ -24,11 +24,6 @@ unfolding vectorAt
 at-zero n k s =
     let z : 0 - offsetOf n 0 ≡ 0 = omega arith in
     rw (column-zero n k, sub-zero k, z, next-zero k)
-
-no-pulse : (s : ℕ) → signed s 0 ≡ pos 0
-unfolding signed
-no-pulse zero = refl
-no-pulse (suc s) = refl
 
 all-zero : (n s : ℕ) → vectorAt n 0 s 0 ≡ replicate n (pos 0)
 unfolding vectorAt

@@ -30,7 +30,7 @@ leadSign [] = 0
 leadSign (x ∷ v) = signBefore x (leadSign v)
 
 -- PACKING. The vectors of one dimension, pulse count and lead sign are numbered from 0, the more pulses at the first place
--- the sooner. With n places and k pulses left after the first place, A(n,k) vectors come before: the rests with fewer
+-- the sooner. With n places and k pulses left after the first place, A(n,k) vectors come before: one for each rest with fewer
 -- pulses, of either lead sign. From there on the rests follow each other by their own number.
 
 -- After a place with pulses the rest has a lead sign of its own, so its number is twice its index plus that sign.

@@ -64,7 +64,7 @@ fn enc_push_sign(val: i32, sign: u32, index: u32) -> Numbered
     Numbered { index, sign: 0 }
 }
 
-// The index and the lead sign of a vector, from its last place down.
+// Packs a vector of at most sixteen places and ten pulses: its index and its lead sign, from its last place down.
 pub fn mvpq_enum(offsets: &[[u32; 11]; 16], v: &[i32]) -> Numbered
     requires { ⌜ (now offsets ≡ offsetTable) × (length (now v) ≤ 16) × (pulsesOf (now v) ≤ 10) ⌝ }
     ensures { λ r. ⌜ (r .index ≡ indexOf (now (v .entry))) × (r .sign ≡ leadSign (now (v .entry))) ⌝ }
@@ -110,15 +110,13 @@ fn mind2vec_one(k: usize, sign: u32) -> i32
     if sign == 0 { x } else { -x }
 }
 
-// The sign and the index of the places after one with delta pulses: its lowest bit is the sign, where there are any.
+// The sign and the index that go on after a place with delta pulses: the sign is the lowest bit of what is left of the
+// index, where there are pulses (the Rust's `get_lead_sign`), and stays where there are none.
 fn setval_update_sign(delta: usize, sign: u32, ind: u32) -> Numbered
     ensures { λ r. ⌜ (r .index ≡ nextIndex delta ind) × (r .sign ≡ nextSign delta sign ind) ⌝ }
 {
     if delta == 0 {
-        return Numbered {
-            index: ind,
-            sign: sign,
-        };
+        return Numbered { index: ind, sign };
     }
     Numbered {
         index: ind / 2,
@@ -137,7 +135,7 @@ fn clear(out: &mut [i32], from: usize)
     }
 }
 
-// The vector of dimension dim with so many pulses at a lead sign and an index, place by place. Once the index is zero
+// Unpacks: fills out, of dim places, with the vector of so many pulses at a lead sign and an index. Once the index is zero
 // all pulses that are left stand at one place, and no offset is looked at.
 pub fn mpvq_deenum(
     offsets: &[[u32; 11]; 16],

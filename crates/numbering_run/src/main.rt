@@ -61,6 +61,23 @@ fn refusal(no: u32, place: usize) {
     io::print_decimal(STDOUT_FILENO, place as u64);
 }
 
+fn answered(r: Answer) {
+    match r {
+        Answer::Done => text(b": done"),
+        Answer::No(no, place) => refusal(no, place),
+    }
+}
+
+fn packed_as(r: Packed) {
+    match r {
+        Packed::At(index, sign) => {
+            number(b": index ", index);
+            number(b" sign ", sign);
+        }
+        Packed::No(no, place) => refusal(no, place),
+    }
+}
+
 // Tries `count` indices with both signs, and says how many came back.
 fn tried(dimension: u32, pulses: u32, first: u32, step: u32, count: u32, v: &mut [i32]) {
     let found = came_back(dimension, pulses, first, step, count, v);
@@ -90,19 +107,16 @@ fn unpacked(dimension: u32, pulses: u32, sign: u32, index: u32, v: &mut [i32]) {
     set(b"unpack (", dimension, pulses);
     number(b" sign ", sign);
     number(b" index ", index);
-    match unpack(dimension, pulses, sign, index, v) {
-        Answer::Done => text(b": done"),
-        Answer::No(no, place) => refusal(no, place),
-    }
+    answered(unpack(dimension, pulses, sign, index, v));
     number(b", kept ", sevens(v));
     text(b"\n");
 }
 
-// A pair of its size: the first index and sign that are refused, then six indices from each end, and a spread.
+// A pair of its size: the first index and sign that are refused, then a spread from index 0 on, and the last six indices.
 fn pair(dimension: u32, pulses: u32, size: u32, step: u32, count: u32, v: &mut [i32]) {
     unpacked(dimension, pulses, 1, size, v);
     unpacked(dimension, pulses, 2, 0, v);
-    tried(dimension, pulses, 0, 1, 6, v);
+    tried(dimension, pulses, 0, step, count, v);
     tried(
         dimension,
         pulses,
@@ -111,29 +125,20 @@ fn pair(dimension: u32, pulses: u32, size: u32, step: u32, count: u32, v: &mut [
         6,
         v,
     );
-    tried(dimension, pulses, 0, step, count, v);
 }
 
 // What pack answers.
 fn packed(words: &[u8], dimension: u32, pulses: u32, v: &[i32]) {
     set(b"pack (", dimension, pulses);
     text(words);
-    match pack(dimension, pulses, v) {
-        Packed::At(index, sign) => {
-            number(b": index ", index);
-            number(b" sign ", sign);
-        }
-        Packed::No(no, place) => refusal(no, place),
-    }
+    packed_as(pack(dimension, pulses, v));
     text(b"\n");
 }
 
 fn packs() {
     packed(b" zeros", 10, 10, &[0; 10]);
-    packed(b" zeros", 6, 1, &[0; 6]);
     packed(b" least i32", 6, 1, &[-2147483648, 0, 0, 0, 0, 0]);
     packed(b" least i32 everywhere", 16, 8, &[-2147483648; 16]);
-    packed(b" two pulses", 6, 1, &[0, 1, 0, -1, 0, 0]);
     packed(b" ten places", 6, 1, &[0; 10]);
     packed(b" ten places", 10, 6, &[0; 10]);
     packed(b" -1 at place 5", 6, 1, &[0, 0, 0, 0, 0, -1]);

@@ -48,7 +48,7 @@ pub record Taken (n k sign index len : ℕ) : Type 0 where
 abbrev pub UnpackTakes : Type 0
 UnpackTakes = (n k sign index len : ℕ) → (Taken n k sign index len → unpackAnswer n k sign index len ≡ Done) × (unpackAnswer n k sign index len ≡ Done → Taken n k sign index len)
 
--- pack takes the vectors of the four pairs, and nothing else
+-- pack takes nothing but the vectors of the four pairs
 abbrev pub PackTakes : Type 0
 PackTakes = (n k index sign : ℕ) (v : List ℤ) → packAnswer n k v ≡ At index sign → (paired n k ≡ true) × PulseVector n k v
 

@@ -29,3 +29,16 @@ packedAs (No number place) index sign = packed.No number place
 
 abbrev pub packAnswer : ℕ → ℕ → List ℤ → Packed
 packAnswer n k v = packedAs (answerOf (packQuestions n k v)) (indexOf v) (leadSign v)
+
+-- the number and the place of the answer are those of `answered`; its values are 0 where the call is refused
+abbrev pub answered : Packed → Answer
+answered (packed.At index sign) = Done
+answered (packed.No number place) = No number place
+
+abbrev pub indexIn : Packed → ℕ
+indexIn (packed.At index sign) = index
+indexIn (packed.No number place) = 0
+
+abbrev pub signIn : Packed → ℕ
+signIn (packed.At index sign) = sign
+signIn (packed.No number place) = 0

@@ -4,7 +4,6 @@ use numbering::mpvq_deenum;
 use shapes::Found;
 use shapes::PulseSet;
 use sns_tables::spec_noise_shape_quant_tables::mpvq_offsets;
-ghost use lib.ListN.{length};
 ghost use Rattle.sns.specs.Unpack.{UnpackSays};
 
 // Fills `vector` with the vector of `dimension` places and `pulses` pulses that has this lead sign, 0 or 1, and this

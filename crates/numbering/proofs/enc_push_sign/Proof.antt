@@ -1,6 +1,5 @@
 -- A place that is zero, below zero, or above: each answer by the definition's case.
 use mathlib.Core.Path.{refl}
-use native.Mathlib.Omega.{arith}
 use borrow.Author.Needs.{needs}
 use Rattle.numbering.specs.Numbering.{pushed, signBefore}
 use Rattle.numbering.proofs.Signs.{is-zero, is-below, is-more}

@@ -1,11 +1,11 @@
 -- A small number fits an i32 with either sign.
 use mathlib.Core.Path.{_≡_, refl, _∙_, subst⁻¹}
-use Prim.Native.Nat.{ℕ, zero, suc, _≤_, _-_, _<_, _^_}
+use Prim.Native.Nat.{ℕ, zero, suc, _<_}
 use borrow.Author.Needs.{needs}
 use native.Mathlib.Omega.{arith}
-use lib.IntN.{ℤ, pos, negsuc, _-ℤ_, +ℤ-idl}
+use lib.IntN.{pos, negsuc, _-ℤ_, +ℤ-idl}
 use mir.Syntax.{w32}
-use mir.Val.{SFits, toZ, ofZ}
+use mir.Val.{SFits, toZ}
 use mir.Facts.{toZ-pos, toZ-ofZ, sfits-lit}
 use Rattle.numbering.specs.Numbering.{signed}
 use Rattle.numbering.proofs.mind2vec_one.Statement.{statement}

@@ -1,6 +1,6 @@
 -- The invariant: the state is the number of the vector from the place on. The measure is the place.
-use mathlib.Core.Path.{_≡_, refl, sym, _∙_, ap}
-use Prim.Native.Nat.{ℕ, _+_, _-_, _*_, _≤_, _<_}
+use mathlib.Core.Path.{_≡_, sym, _∙_, ap}
+use Prim.Native.Nat.{_+_, _-_, _*_, _≤_, _<_}
 use native.Mathlib.Omega.{arith}
 use borrow.Author.Needs.{needs}
 use lib.IntN.{ℤ, pos, natAbs}

@@ -1,5 +1,5 @@
 -- The entry of the lent table, which is the list of A(n,k).
-use mathlib.Core.Path.{_≡_, _∙_, ap}
+use mathlib.Core.Path.{_≡_}
 use mathlib.Core.List.{List, []}
 use Prim.Native.Nat.{ℕ, _<_}
 use borrow.Author.Needs.{needs}

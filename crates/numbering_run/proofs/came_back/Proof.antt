@@ -1,5 +1,5 @@
 -- The loop ends: the measure is the turns left. The vector keeps its length.
-use mathlib.Core.Path.{_≡_, refl}
+use mathlib.Core.Path.{_≡_}
 use Prim.Native.Nat.{_-_}
 use native.Mathlib.Omega.{arith}
 use lib.ListN.{length}

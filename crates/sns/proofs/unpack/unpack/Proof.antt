@@ -61,7 +61,7 @@ returns-5 c =
     let e = l .before .before in
     let s = set-is (e .before .before .before .before) in (
       taken _ _ _ _ _ (s .pair) (e .before .if1 .left ∙ s .dimension) (e .if2 .left) (omega (arith, s .size, l .if3 .left)),
-      c .before .mpvq-deenum .ensures ∙ rw (s .dimension, s .pulses),
+      rw (s .dimension, s .pulses) at (c .before .mpvq-deenum .ensures),
     )
 
 pub unpack-spec : {M : Type 1} → statement M
