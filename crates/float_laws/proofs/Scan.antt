@@ -2,7 +2,7 @@
 use mathlib.Core.Path.{_≡_, refl, sym, ap, _∙_, subst}
 use mathlib.Core.Bool.{Bool, true, false, not}
 use Prim.Native.Nat.{ℕ, zero, suc, _+_, _≤_, _<_}
-use native.Mathlib.Nat.{le-refl, le-trans, le-suc, le-of-lt}
+use native.Mathlib.Nat.{le-refl, le-trans, le-suc}
 use native.Mathlib.Numerals.{add-one}
 use lib.Dec.{T}
 use lib.Ieee.{Float, lt, isNan}
@@ -49,3 +49,12 @@ least-first d (suc n) h = subst (λ (m : ℕ). FirstLeast d m (leastTo d (suc n)
     go : FirstLeast d (suc n) (leastTo d n) → (z : Bool) → lt (d (suc n)) (d (leastTo d n)) ≡ z → FirstLeast d (suc n + 1) (choose z (suc n) (leastTo d n))
     go before true e = first-move d (suc n) (leastTo d n) before fewer e
     go before false e = first-keep d (suc n) (leastTo d n) before e
+
+-- the scan looks at nothing past its last value
+pub least-same : (d e : ℕ → Float) (n : ℕ) → ((i : ℕ) → i ≤ n → d i ≡ e i) → leastTo d n ≡ leastTo e n
+unfolding leastTo
+least-same d e zero h = refl
+least-same d e (suc n) h = go (least-same d e n (λ i l. h i (le-trans l (le-suc n))))
+  where
+    go : leastTo d n ≡ leastTo e n → choose (lt (d (suc n)) (d (leastTo d n))) (suc n) (leastTo d n) ≡ choose (lt (e (suc n)) (e (leastTo e n))) (suc n) (leastTo e n)
+    go r = rw (h (suc n) (le-refl (suc n)), h (leastTo d n) (le-trans (least-under d n) (le-suc n)), r)

@@ -5,3 +5,4 @@ pub mod Absolute
 pub mod Least
 pub mod Running
 pub mod Scan
+pub mod Bounded
