@@ -1,9 +1,7 @@
 -- The first least of n floats, one more at a time, as a loop finds it. Assumes nothing.
 use mathlib.Core.Path.{_≡_, sym, subst}
 use Prim.Native.Nat.{ℕ, _+_, _<_}
-use native.Mathlib.Nat.{eq-or-lt-of-le}
 use native.Mathlib.Omega.{arith}
-use mathlib.Core.Logic.{inl, inr}
 use mathlib.Core.Bool.{Bool, true, false, not}
 use lib.Dec.{T, T-not}
 use lib.Ieee.{Float, lt, isNan}

@@ -10,3 +10,5 @@ pub mod Least
 pub mod Running
 pub mod Scan
 pub mod Alike
+pub mod Unsigned
+pub mod Floor

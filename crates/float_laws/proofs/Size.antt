@@ -1,14 +1,13 @@
 -- A bound on a size goes through rounding: where the exact result is at most g / h in size, and the format holds g / h, the rounded result is at most g / h too.
 -- So no error piles up over a chain of operations. Assumes nothing.
 use mathlib.Core.Path.{_≡_, sym, ap, _∙_, subst}
-use mathlib.Core.Logic.{_⊎_, inl, inr}
 use Prim.Native.Nat.{ℕ, zero, suc, _+_, _-_, _*_, _/_, _^_, _≤_, _<_}
-use native.Mathlib.Nat.{le-trans, le-of-eq, le-of-lt, mul-comm, mul-assoc, mul-left-comm, mul-right-comm, mul-le-mul, mul-le-mul-right, le-of-mul-le-mul-right, mul-pos, add-mul, mul-mul-mul-comm}
+use native.Mathlib.Nat.{le-trans, le-of-eq, mul-comm, mul-assoc, mul-right-comm, mul-le-mul, mul-le-mul-right, mul-pos, add-mul, mul-mul-mul-comm}
 use native.Mathlib.Omega.{arith}
-use mathlib.Core.Bool.{Bool, true, false, not, _&&_, _||_, Bool·beq, cond}
-use lib.Dec.{T, leb, ltb, eqb, ltb→lt, leb→le, eqb→eq, lit<}
+use mathlib.Core.Bool.{Bool, true, false, not, _&&_, Bool·beq, cond}
+use lib.Dec.{T, ltb, leb→le, eqb→eq}
 use lib.Ieee.{Float, nan, inf, fin, Format, prec, emax, low, up, down, unlike, odd, units, round, neg, sum, add, sub, mul, le}
-use lib.Ieee.Fits.{down-pos, and-l, round-is, eq→eqb}
+use lib.Ieee.Fits.{down-pos, round-is, eq→eqb}
 use lib.Ieee.Exact.{HasValue}
 use lib.Ieee.Back.{round-whole}
 use lib.Ieee.Order.{round-mono}

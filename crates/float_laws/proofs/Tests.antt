@@ -1,16 +1,24 @@
 -- From a comparison in the code to a bound on a size, and back to a comparison. Assumes nothing.
-use mathlib.Core.Path.{_≡_, sym, ap, subst}
-use mathlib.Core.Logic.{_⊎_, inl, inr}
-use Prim.Native.Nat.{ℕ, zero, suc, _+_, _*_, _≤_, _<_, zero-le}
-use native.Mathlib.Nat.{eq-or-lt-of-le, le-of-eq, le-of-lt, lt-of-le-of-lt, lt-of-lt-of-le, le-trans, mul-right-comm, mul-lt-mul-of-pos-right, mul-le-mul-right, lt-of-mul-lt-mul-right, mul-pos}
+use mathlib.Core.Path.{_≡_, sym, _∙_}
+use mathlib.Core.Logic.{inl, inr}
+use Prim.Native.Nat.{ℕ, zero, _+_, _*_, _≤_, _<_, zero-le}
+use native.Mathlib.Nat.{eq-or-lt-of-le, le-of-eq, lt-of-le-of-lt, lt-of-lt-of-le, mul-right-comm, mul-lt-mul-of-pos-right, mul-le-mul-right, lt-of-mul-lt-mul-right}
 use native.Mathlib.Omega.{arith}
-use mathlib.Core.Bool.{Bool, true, false, not, _&&_, _||_, Bool·beq}
+use mathlib.Core.Bool.{true, false, not, _&&_, _||_, false≢true}
 use lib.IntN.{ℤ}
-use lib.Dec.{T, ltb, eqb, ltb→lt, lt→ltb, eqb→eq}
-use lib.Ieee.{Float, nan, inf, fin, up, down, lt, le, eq}
-use lib.Ieee.Fits.{down-pos, up-pos, and-i, eq→eqb}
+use lib.Dec.{T, ltb, eqb, lt→ltb}
+use lib.Ieee.{Float, nan, inf, fin, up, down, lt, le, eq, ne, isNan}
+use lib.Ieee.Compare.{nan-differs}
+use lib.Ieee.Fits.{down-pos, and-i, eq→eqb}
 use Rattle.float_laws.specs.Size.{Within}
 use Rattle.float_laws.proofs.Logic.{or-left, or-right, lt-or-eq, gt-or-eq}
+
+-- a value that equals itself is no NaN
+pub same-no-nan : (x : Float) → ne x x ≡ false → T (not (isNan x))
+unfolding isNan
+same-no-nan nan e = absurd (false≢true (sym e ∙ nan-differs))
+same-no-nan (inf s) e = tt
+same-no-nan (fin s m e) h = tt
 
 -- -b ≤ x ≤ b, for a finite b: x is at most b in size. A NaN fails both tests
 pub tests-within : (x : Float) (m : ℕ) (e : ℤ) → T (le (fin true m e) x) → T (le x (fin false m e)) → Within x (m * up e) (down e)

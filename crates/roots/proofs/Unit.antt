@@ -2,14 +2,14 @@
 use mathlib.Core.Path.{_≡_, refl, subst}
 use mathlib.Core.Logic.{inl, inr}
 use mathlib.Core.Bool.{Bool, true, false, not, _||_}
-use Prim.Native.Nat.{ℕ, suc, _+_, _-_, _*_, _^_, _≤_, _<_}
+use Prim.Native.Nat.{ℕ, suc, _-_, _*_, _≤_, _<_}
 use native.Mathlib.Nat.{le-trans, le-of-lt, mul-le-mul, eq-zero-or-pos}
 use native.Mathlib.Omega.{arith}
 use borrow.Author.Tests.{ltb-true, ltb-false}
 use lib.Dec.{T, ltb, leb, le→leb, lit<, lit≤}
 use lib.ListN.{getD}
-use lib.IntN.{ℤ, natAbs}
-use lib.Ieee.{Float, binary32, ofBits, ofInt, div}
+use lib.IntN.{natAbs}
+use lib.Ieee.{binary32, ofBits, ofInt, div}
 use Rattle.float_laws.specs.Size.{Within, AtLeast, atLeastb}
 use Rattle.float_laws.proofs.Size.{at-least-test, whole-exact}
 use Rattle.float_laws.proofs.Divide.{div-within}
@@ -17,6 +17,7 @@ use Rattle.float_laws.proofs.Whole.{int-within}
 use Rattle.list_laws.specs.Every.{everyBelow, everyFrom}
 use Rattle.list_laws.proofs.Every.{at-below, at-place}
 use Rattle.roots.specs.Root.{rootBits, rootOf}
+use Rattle.roots.specs.Claims.{PlaceUnit}
 use Rattle.roots.proofs.Nearest.{roots-count}
 
 -- the root with this pattern is at least y, where y * y ≤ n
@@ -57,7 +58,7 @@ root-at-least n y h k s =
     inside n h k = omega arith
 
 -- for pulses y with y * y ≤ n, |y / root n| ≤ 1
-pub unit : (n : ℕ) (y : ℤ) → 1 ≤ n → n ≤ 101 → natAbs y * natAbs y ≤ n → Within (div binary32 (ofInt binary32 y) (rootOf n)) 1 1
+pub unit : PlaceUnit
 unit n y h k s =
     elim (eq-zero-or-pos (natAbs y)) [
       | inl e ↦ by 0 1 (lit< tt) (lit≤ tt) (subst (λ (a : ℕ). Within (ofInt binary32 y) a 1) e size) (root-at-least n 1 h k h)

@@ -1,6 +1,5 @@
 -- The f32 nearest to the square root of a whole number from 1 to 101, by comparing whole-number squares. Definitions only.
-use mathlib.Core.Path.{_≡_}
-use mathlib.Core.Bool.{Bool, true, false, not, _&&_}
+use mathlib.Core.Bool.{Bool, false, not}
 use mathlib.Core.List.{List, [], _∷_, map}
 use Prim.Native.Nat.{ℕ, _+_, _-_, _*_, _<_}
 use lib.Dec.{T}
@@ -38,12 +37,12 @@ Below x y n = joint x y * joint x y < 4 * n * (over x y * over x y)
 abbrev pub Above : Float → Float → ℕ → Type 0
 Above x y n = 4 * n * (over x y * over x y) < joint x y * joint x y
 
--- r is the f32 with the pattern `bits`, and the root of n lies between r's midpoints with the f32s next to it: those of the patterns before and after
-pub record Root (n : ℕ) (r : Float) : Type 0 where
-  pub bits : ℕ
-  pub is : r ≡ ofBits binary32 bits
-  pub below : Below (ofBits binary32 (bits - 1)) r n
-  pub above : Above r (ofBits binary32 (bits + 1)) n
+-- r is the f32 nearest to the square root of n: r's midpoint with every smaller f32 that is not below zero lies below the root, and with every larger one above it
+pub record Nearest (n : ℕ) (r : Float) : Type 0 where
+  pub held : T (fits binary32 r)
+  pub plus : T (positive r)
+  pub below : (x : Float) → T (fits binary32 x) → T (positive x) → T (lt x r) → Below x r n
+  pub above : (x : Float) → T (fits binary32 x) → T (positive x) → T (lt r x) → Above x r n
 
 -- the patterns of the roots of 1 to 101
 unfoldable pub rootBits : List ℕ

@@ -1,7 +1,7 @@
 -- The sizes of the four sets, as the sum of offsets that the definition says. Assumes nothing.
 use mathlib.Core.Path.{_≡_, refl}
-use lib.Dec.{T, eqb, eqb→eq}
 use Rattle.sns_tables.specs.Offsets.{offsetOf, sizeOf}
+use Rattle.shapes.specs.Claims.{SizesAre}
 
 pub size-regular-a : sizeOf 10 10 ≡ 2390004
 unfolding sizeOf offsetOf
@@ -18,3 +18,6 @@ size-near = refl
 pub size-far : sizeOf 16 6 ≡ 774912
 unfolding sizeOf offsetOf
 size-far = refl
+
+pub sizes : SizesAre
+sizes = (size-regular-a, size-regular-b, size-near, size-far)

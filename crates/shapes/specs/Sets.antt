@@ -1,6 +1,6 @@
 -- The sets of pulse vectors that are numbered, and the shapes that are made of them. Definitions only.
 use Prim.Native.Nat.{ℕ, zero, suc}
-use mathlib.Core.Bool.{Bool, true, false, _&&_, _||_}
+use mathlib.Core.Bool.{Bool, _&&_, _||_, cond}
 use lib.Dec.{eqb}
 use Rattle.sns_tables.specs.Offsets.{sizeOf}
 use Rattle.shapes.specs.declared.PulseSet.{PulseSet}
@@ -29,10 +29,6 @@ samePair n k a b = eqb n a && eqb k b
 abbrev pub paired : ℕ → ℕ → Bool
 paired n k = samePair n k 10 10 || samePair n k 6 1 || samePair n k 16 8 || samePair n k 16 6
 
-abbrev pub pick : Bool → Found → Found → Found
-pick true a b = a
-pick false a b = b
-
 -- the set of a pair, where it is one of the four
 unfoldable pub foundOf : ℕ → ℕ → Found
-foundOf n k = pick (paired n k) (Set (setOf n k)) Nothing
+foundOf n k = cond (paired n k) (Set (setOf n k)) Nothing

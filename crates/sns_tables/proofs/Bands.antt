@@ -1,15 +1,16 @@
 -- The ten band limit tables start at 0, rise, and have 60 or 64 bands: one computed test over all ten, and what it says of each. Assumes nothing.
-use mathlib.Core.Path.{_≡_, refl, sym, subst, _∙_}
+use mathlib.Core.Path.{_≡_, refl, subst}
 use mathlib.Core.Bool.{Bool, true, false}
-use mathlib.Core.List.{List, [], _∷_}
-use Prim.Native.Nat.{ℕ, zero, suc, _+_, _-_, _≤_, _<_}
+use mathlib.Core.List.{List, []}
+use Prim.Native.Nat.{ℕ, zero, suc, _+_, _-_, _<_}
 use native.Mathlib.Omega.{arith}
 use lib.Dec.{T, eqb, ltb, eqb→eq, ltb→lt}
 use borrow.Author.Tests.{lt-ltb, le-ltb}
 use lib.ListN.{length, getD}
 use Rattle.list_laws.specs.Every.{both, everyBelow, everyFrom}
 use Rattle.list_laws.proofs.Every.{both-left, both-right, at-below, at-place}
-use Rattle.sns_tables.specs.Bands.{limitTables, tableNumber, limitsOf, bandsOf, Limits}
+use Rattle.sns_tables.specs.Bands.{limitTables, tableNumber, limitsOf, bandsOf}
+use Rattle.sns_tables.specs.Claims.{LimitsSound}
 
 -- the bands of table k
 bandsAt : ℕ → ℕ
@@ -47,7 +48,7 @@ number-bands rate false h = (omega arith, rw (back, le-ltb (5 + rate) 5 (omega a
     back : 5 + rate - 5 ≡ rate
     back = omega arith
 
-pub limits : (rate : ℕ) (ten : Bool) → rate < 5 → Limits rate ten
+pub limits : LimitsSound
 unfolding sound starts rises
 limits rate ten h =
     let k = tableNumber rate ten in

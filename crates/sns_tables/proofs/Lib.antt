@@ -3,3 +3,4 @@ pub mod Bands
 pub mod Sizes
 pub mod ByPlace
 pub mod Codes
+pub mod Rotation

@@ -1,16 +1,17 @@
 -- The 176 offsets obey the recurrence at every entry: one computed test over the whole table, and the lemma that carries it to each entry. Assumes nothing.
-use mathlib.Core.Path.{_≡_, refl, sym, ap, ap₂, _∙_}
+use mathlib.Core.Path.{_≡_, refl, sym, ap₂, _∙_}
 use mathlib.Core.Bool.{Bool}
 use mathlib.Core.List.{List, [], _∷_}
 use Prim.Native.Nat.{ℕ, zero, suc, _+_, _<_}
 use native.Mathlib.Omega.{arith}
-use lib.Dec.{T, eqb, eqb→eq}
+use lib.Dec.{T, eqb, eqb→eq, lit<}
 use lib.ListN.{length, getD}
 use Rattle.list_laws.specs.Every.{every, gridFrom}
 use Rattle.list_laws.specs.ListOf.{listOf}
 use Rattle.list_laws.proofs.Every.{at, at-grid}
-use Rattle.list_laws.proofs.ListOf.{is-listOf, length-listOf, getD-listOf}
-use Rattle.sns_tables.specs.Offsets.{offsetOf, offsetTable}
+use Rattle.list_laws.proofs.ListOf.{is-listOf, getD-listOf}
+use Rattle.sns_tables.specs.Offsets.{offsetOf, offsetTable, entryOf}
+use Rattle.sns_tables.specs.Claims.{OffsetsObey}
 
 -- the constants of the code, row by row
 unfoldable pub offsetRows : List (List ℕ)
@@ -82,3 +83,19 @@ entry (suc n) (suc k) h l =
 pub rows-are : offsetRows ≡ offsetTable
 unfolding offsetTable
 rows-are = is-listOf 16 (λ n. listOf 11 (λ k. offsetOf n k)) [] offsetRows rows (λ n h. is-listOf 11 (λ k. offsetOf n k) 0 (getD offsetRows n []) (width n h) (λ k l. entry n k h l))
+
+-- the table's entries, and so its recurrence
+table-entry : (n k : ℕ) → n < 16 → k < 11 → entryOf offsetTable n k ≡ offsetOf n k
+unfolding offsetTable
+table-entry n k h l = rw (getD-listOf 16 (λ n. listOf 11 (λ k. offsetOf n k)) [] n h) (getD-listOf 11 (λ k. offsetOf n k) 0 k l)
+
+pub offsets-obey : OffsetsObey
+unfolding offsetOf
+offsets-obey = record {
+  column = λ n h. table-entry n 0 h (lit< tt) ∙ first n;
+  row = λ k l. table-entry 0 (suc k) (lit< tt) l;
+  rest = λ n k h l. table-entry (suc n) (suc k) h l ∙ sym (ap₂ (λ (a b : ℕ). a + b) (ap₂ (λ (a b : ℕ). a + b) (table-entry n k (under h) (under l)) (table-entry (suc n) k h (under l))) (table-entry n (suc k) (under h) l));
+}
+  where
+    under : {i j : ℕ} → suc i < j → i < j
+    under q = omega arith

@@ -14,6 +14,7 @@ use Rattle.list_laws.proofs.Every.{both-left, both-right, at, at-grid}
 use Rattle.sns_tables.specs.Codebooks.{lfcbRows, hfcbRows}
 use Rattle.sns_tables.specs.Rotation.{dRows}
 use Rattle.sns_tables.specs.Gains.{over4096, gainRows, gainsOf, gainAt}
+use Rattle.sns_tables.specs.Claims.{LowCodesSmall, HighCodesSmall, RotationSmall, GainsSmall}
 
 -- ---- a grid of h rows of w floats, each at most a / c in size
 sizedGrid : ℕ → ℕ → ℕ → ℕ → List (List Float) → Bool
@@ -50,6 +51,15 @@ pub d-grid : Grid 16 16 361 1024 dRows
 unfolding sizedGrid dRows plus minus
 d-grid = grid 16 16 361 1024 dRows tt
 
+pub low-code-within : LowCodesSmall
+low-code-within = lfcb-grid .size
+
+pub high-code-within : HighCodesSmall
+high-code-within = hfcb-grid .size
+
+pub d-within : RotationSmall
+d-within = d-grid .size
+
 -- ---- the gains are at most 21014/4096, and 2, 4, 4 and 8 in number
 smallGains : List Float → Bool
 smallGains r = every (withinb 21014 4096) r
@@ -62,7 +72,7 @@ pub shapes : length gainRows ≡ 4
 unfolding gainRows
 shapes = refl
 
-pub gain-within : (shape gain : ℕ) → shape < 4 → gain < gainsOf shape → Within (gainAt shape gain) 21014 4096
+pub gain-within : GainsSmall
 unfolding smallGains
 gain-within shape gain h l =
     within-test 21014 4096 (gainAt shape gain)

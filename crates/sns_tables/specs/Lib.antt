@@ -5,3 +5,4 @@ pub mod Rotation
 pub mod Gains
 pub mod Offsets
 pub mod Bands
+pub mod Claims

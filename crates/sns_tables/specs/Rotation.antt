@@ -4,6 +4,7 @@ use mathlib.Core.List.{List, [], _∷_}
 use lib.ListN.{getD}
 use lib.Ieee.{Float, nan}
 use Rattle.float_laws.specs.Decimal.{plus, minus}
+use Rattle.list_laws.specs.ListOf.{listOf}
 
 unfoldable pub dRows : List (List Float)
 dRows =
@@ -28,3 +29,7 @@ dRows =
 -- D[row][column]
 abbrev pub dAt : ℕ → ℕ → Float
 dAt row column = getD (getD dRows row []) column nan
+
+-- the same by columns: entry [column][row] is D[row][column]
+unfoldable pub dColumns : List (List Float)
+dColumns = listOf 16 (λ column. listOf 16 (λ row. dAt row column))

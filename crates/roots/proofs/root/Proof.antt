@@ -1,6 +1,6 @@
 -- Entry n - 1 of the lent table is the root of n.
-use mathlib.Core.Path.{_≡_, refl, ap, _∙_}
-use mathlib.Core.List.{List, map}
+use mathlib.Core.Path.{_≡_, refl}
+use mathlib.Core.List.{List}
 use Prim.Native.Nat.{ℕ, _-_}
 use lib.ListN.{getD, List·getD-map}
 use lib.Ieee.{Float, nan, binary32, ofBits}

@@ -1,6 +1,5 @@
 -- The decimals of the code are the f32s with the written patterns: computed over the whole table.
 use mathlib.Core.Path.{refl}
-use lib.Ieee.{ofBits}
 use Rattle.roots.specs.Root.{rootBits, rootTable}
 use Rattle.roots.proofs.roots.Statement.{statement}
 use Rattle.roots.proofs.roots.Tie as tie

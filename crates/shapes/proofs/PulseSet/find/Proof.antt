@@ -1,8 +1,7 @@
 -- A pair is looked for by its dimension, then by its pulse count: each answer from the tests that led to it.
 use mathlib.Core.Path.{_≡_, refl}
 use Prim.Native.Nat.{ℕ}
-use native.Mathlib.Omega.{arith}
-use borrow.Author.Tests.{eq-eqb, ne-eqb}
+use borrow.Author.Tests.{ne-eqb}
 use borrow.Author.Needs.{needs}
 use Rattle.shapes.specs.Sets.{foundOf}
 use Rattle.shapes.specs.declared.Found.the-variants.{Nothing}

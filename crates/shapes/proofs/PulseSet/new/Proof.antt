@@ -1,6 +1,5 @@
 -- Each shape's constants are its set A's, shape by shape, with the size as the sum of offsets that it is.
-use mathlib.Core.Path.{_≡_, refl, sym}
-use Prim.Native.Nat.{ℕ}
+use mathlib.Core.Path.{_≡_}
 use native.Mathlib.Omega.{arith}
 use Rattle.shapes.proofs.Sizes.{size-regular-a, size-near, size-far}
 use Rattle.shapes.proofs.PulseSet.new.Statement.{statement}

@@ -1,5 +1,4 @@
 -- The constants of the code are the rows that were tested, and so the table of A(n,k).
-use mathlib.Core.Path.{refl}
 use Rattle.sns_tables.proofs.Offsets.{offsetRows, rows-are}
 use Rattle.sns_tables.proofs.spec_noise_shape_quant_tables.mpvq_offsets.Statement.{statement}
 use Rattle.sns_tables.proofs.spec_noise_shape_quant_tables.mpvq_offsets.Tie as tie

@@ -1,0 +1,26 @@
+# `make` alone lists the targets.
+.PHONY: help test check format tables
+
+help:
+	@echo 'make test      the gate: format, the Rust comparisons, then every proof, must-fail edit and program from nothing'
+	@echo 'make check     prove what changed since the last time, and run the programs: the quick loop'
+	@echo 'make format    lay out every Rattle and antt file'
+	@echo 'make tables    make the recorded tables anew from the Rust source (see tests/tables/record.sh)'
+
+test: kit
+	rt fmt --check
+	sh tests/rust_at_hand.sh sh tests/tables/record.sh --check
+	rt ci
+
+check: kit
+	rt check
+
+format: kit
+	rt fmt
+
+tables: kit
+	sh tests/tables/record.sh
+
+.PHONY: kit
+kit:
+	@command -v rt >/dev/null || { echo 'The Rattle kit is missing: put its bin folder (the one that holds rt) on the PATH.'; exit 1; }

@@ -1,0 +1,35 @@
+-- What is shown of the candidates and of the choice. Definitions only; the proofs are in proofs/Claims.
+use mathlib.Core.Path.{_≡_}
+use mathlib.Core.Bool.{not}
+use mathlib.Core.List.{List, []}
+use Prim.Native.Nat.{ℕ, _<_}
+use lib.Dec.{T}
+use lib.ListN.{getD}
+use lib.Ieee.{Float, nan, isNan}
+use Rattle.float_laws.specs.Bounded.{Bounded}
+use Rattle.float_laws.specs.Kind.{finite}
+use Rattle.float_laws.specs.Least.{FirstLeast}
+use Rattle.shape_search.specs.Claims.{Sound}
+use Rattle.candidates.specs.Candidate.{candidateOf}
+use Rattle.candidates.specs.Scan.{choices, distortionAt, winnerOf}
+
+-- no place of a candidate is over 1 in size, for any target
+abbrev pub Units : Type 0
+Units = (t : List Float) (y : List ℕ) → Sound y → Bounded 16 1 (candidateOf t y)
+
+-- sixteen finite places, and four candidates
+pub record Comparable (t : List Float) (q : List (List Float)) : Type 0 where
+  pub target : (n : ℕ) → n < 16 → T (finite (getD t n nan))
+  pub units : (s : ℕ) → s < 4 → Bounded 16 1 (getD q s [])
+
+-- no compared distortion is NaN, however large the target is
+abbrev pub NoNan : Type 0
+NoNan = (t : List Float) (q : List (List Float)) → Comparable t q → (i : ℕ) → i < choices → T (not (isNan (distortionAt t q i)))
+
+-- the winner is the first of the scanned choices with the least computed distortion: none is smaller, and each earlier one is larger
+abbrev pub WinnerFirst : Type 0
+WinnerFirst = (t : List Float) (q : List (List Float)) → Comparable t q → FirstLeast (distortionAt t q) choices (winnerOf t q)
+
+-- and no other choice is
+abbrev pub WinnerOnly : Type 0
+WinnerOnly = (t : List Float) (q : List (List Float)) → Comparable t q → (i : ℕ) → FirstLeast (distortionAt t q) choices i → i ≡ winnerOf t q

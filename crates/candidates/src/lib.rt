@@ -1,0 +1,191 @@
+// The candidates of the shapes, their distortion under each gain, and the first least of all: step 9 of the Rust's
+// `sns_quant_stage2` and its choice of shape and gain. Public for the crates above only; every result is pinned by a
+// definition.
+ghost use mathlib.Core.Path.{_≡_};
+ghost use mathlib.Core.List.{[]};
+ghost use Prim.Native.Nat.{_*_, _-_, _<_, _≤_};
+ghost use lib.ListN.{getD};
+ghost use lib.Ieee.{nan, binary32, ofInt, div, lt};
+ghost use Rattle.float_laws.specs.Scan.{leastTo};
+ghost use Rattle.list_laws.specs.ListOf.{listOf};
+ghost use Rattle.roots.specs.Root.{rootTable};
+ghost use Rattle.shape_search.specs.Projection.{nought};
+ghost use Rattle.shape_search.specs.Shape.{squareTo};
+ghost use Rattle.candidates.specs.Candidate.{signedOf, candidateOf, distortionOf};
+ghost use Rattle.candidates.specs.Scan.{choices, choiceAt, gainOf, distortionAt, winnerOf};
+
+// How many gains of each shape are scanned, and how many choices that makes.
+const REG_GAINS: usize = 1;
+
+const REG_LF_GAINS: usize = 3;
+
+const NEAR_GAINS: usize = 3;
+
+const FAR_GAINS: usize = 7;
+
+pub const CHOICES: usize = REG_GAINS + REG_LF_GAINS + NEAR_GAINS + FAR_GAINS;
+
+// A shape and the number of one of its gains.
+pub struct Choice {
+    pub shape: usize,
+    pub gain: usize,
+}
+
+fn square(x: u8) -> usize
+    ensures is { λ r. ⌜ r ≡ x * x ⌝ }
+    ensures small { λ r. ⌜ r ≤ 65025 ⌝ }
+{
+    let w = x as usize;
+    w * w
+}
+
+// The squared length of a shape's pulses.
+fn squared_length(y: &[[u8; 16]; 4], shape: usize) -> usize
+    requires { ⌜ shape < 4 ⌝ }
+    ensures { λ r. ⌜ r ≡ squareTo (getD (now (y .entry)) shape []) 16 ⌝ }
+{
+    let mut s = 0usize;
+    let mut n = 0usize;
+    while n < 16 {
+        s = s + square(y[shape][n]);
+        n += 1;
+    }
+    s
+}
+
+// A place's pulses with the target's sign, divided by the length. No pulses have no sign.
+fn unit(t: f32, pulses: u8, length: f32) -> f32
+    ensures { λ q. ⌜ q ≡ div binary32 (ofInt binary32 (signedOf (lt t nought) pulses)) length ⌝ }
+{
+    let m = pulses as f32;
+    if t < 0.0 {
+        if pulses != 0 {
+            return -m / length;
+        }
+        return m / length;
+    }
+    m / length
+}
+
+// A shape's pulses, with signs, divided by their length.
+pub fn normalize_candidate(
+    roots: &[f32; 101],
+    t: &[f32; 16],
+    y: &[[u8; 16]; 4],
+    shape: usize,
+) -> [f32; 16]
+    requires { ⌜ (now roots ≡ rootTable) × (shape < 4) ⌝ }
+    requires { ⌜ (1 ≤ squareTo (getD (now y) shape []) 16) × (squareTo (getD (now y) shape []) 16 ≤ 101) ⌝ }
+    ensures { λ q. ⌜ q ≡ candidateOf (now (t .entry)) (getD (now (y .entry)) shape []) ⌝ }
+{
+    let length = roots::root(roots, squared_length(y, shape));
+    let mut xq = [0.0f32; 16];
+    let mut n = 0usize;
+    while n < 16 {
+        xq[n] = unit(t[n], y[shape][n], length);
+        n += 1;
+    }
+    xq
+}
+
+// The k-th choice: shapes upward, and of each its gains upward.
+pub fn choice_at(k: usize) -> Choice
+    requires { ⌜ k < choices ⌝ }
+    ensures { λ c. ⌜ c ≡ choiceAt k ⌝ }
+{
+    if k < REG_GAINS {
+        return Choice { shape: 0, gain: k };
+    }
+    let k = k - REG_GAINS;
+    if k < REG_LF_GAINS {
+        return Choice { shape: 1, gain: k };
+    }
+    let k = k - REG_LF_GAINS;
+    if k < NEAR_GAINS {
+        return Choice { shape: 2, gain: k };
+    }
+    let k = k - NEAR_GAINS;
+    Choice { shape: 3, gain: k }
+}
+
+// The gain of each choice.
+pub fn scanned_gains() -> [f32; CHOICES]
+    ensures { λ r. ⌜ r ≡ listOf choices gainOf ⌝ }
+{
+    let reg = sns_tables::spec_noise_shape_quant_tables::sns_vq_reg_adj_gains();
+    let reg_lf = sns_tables::spec_noise_shape_quant_tables::sns_vq_reg_lf_adj_gains();
+    let near = sns_tables::spec_noise_shape_quant_tables::sns_vq_near_adj_gains();
+    let far = sns_tables::spec_noise_shape_quant_tables::sns_vq_far_adj_gains();
+    [
+        reg[0],
+        reg_lf[0],
+        reg_lf[1],
+        reg_lf[2],
+        near[0],
+        near[1],
+        near[2],
+        far[0],
+        far[1],
+        far[2],
+        far[3],
+        far[4],
+        far[5],
+        far[6],
+    ]
+}
+
+// The distortion of a shape's candidate under a gain.
+fn distortion(t: &[f32; 16], xq: &[[f32; 16]; 4], shape: usize, gain: f32) -> f32
+    requires { ⌜ shape < 4 ⌝ }
+    ensures { λ r. ⌜ r ≡ distortionOf (now (t .entry)) (getD (now (xq .entry)) shape []) gain ⌝ }
+{
+    let mut d_mse = 0.0f32;
+    let mut n = 0usize;
+    while n < 16 {
+        let diff = t[n] - gain * xq[shape][n];
+        d_mse = d_mse + diff * diff;
+        n += 1;
+    }
+    d_mse
+}
+
+// The distortion of each choice.
+fn distortions(t: &[f32; 16], xq: &[[f32; 16]; 4], gains: &[f32; CHOICES]) -> [f32; CHOICES]
+    requires { ⌜ now gains ≡ listOf choices gainOf ⌝ }
+    ensures { λ r. ⌜ r ≡ listOf choices (distortionAt (now (t .entry)) (now (xq .entry))) ⌝ }
+{
+    let mut d_mse = [0.0f32; CHOICES];
+    let mut k = 0usize;
+    while k < CHOICES {
+        let c = choice_at(k);
+        d_mse[k] = distortion(t, xq, c.shape, gains[k]);
+        k += 1;
+    }
+    d_mse
+}
+
+// The first strictly smallest.
+fn first_least(d_mse: &[f32; CHOICES]) -> usize
+    ensures { λ r. ⌜ r ≡ leastTo (λ i. getD (now («d_mse» .entry)) i nan) (choices - 1) ⌝ }
+{
+    let mut best = 0usize;
+    let mut d_mse_min = d_mse[0];
+    let mut k = 0usize;
+    while k < CHOICES - 1 {
+        k += 1;
+        if d_mse[k] < d_mse_min {
+            best = k;
+            d_mse_min = d_mse[k];
+        }
+    }
+    best
+}
+
+// The choice that wins.
+pub fn winner(t: &[f32; 16], xq: &[[f32; 16]; 4], gains: &[f32; CHOICES]) -> usize
+    requires { ⌜ now gains ≡ listOf choices gainOf ⌝ }
+    ensures { λ r. ⌜ r ≡ winnerOf (now (t .entry)) (now (xq .entry)) ⌝ }
+{
+    let d_mse = distortions(t, xq, gains);
+    first_least(&d_mse)
+}

@@ -1,0 +1,76 @@
+// The check of one factor, and of a row of factors. Public for the crates above only; every result is pinned.
+ghost use mathlib.Core.Path.{_≡_};
+ghost use lib.Dec.{T};
+ghost use Rattle.float_laws.specs.Kind.{finite};
+ghost use Rattle.factor.specs.Check.{factorLimit, checkedOf, numberOf, valueOf, refusalOf, carriedBy, firstRefused};
+
+// The answer for one factor: the factor itself, the offending value, or nothing.
+pub enum Checked {
+    Within(f32),
+    TooFar(f32),
+    NotFinite,
+}
+
+// The limit of a factor, on both sides.
+pub fn factor_limit() -> f32
+    ensures { λ r. ⌜ r ≡ factorLimit ⌝ }
+{
+    64.0
+}
+
+// Checks a factor against a finite limit. An infinity is beyond every limit, so a factor that is taken is asked three
+// questions and not five.
+pub fn check_against(x: f32, limit: f32) -> Checked
+    requires { ⌜ T (finite limit) ⌝ }
+    ensures { λ r. ⌜ r ≡ checkedOf limit x ⌝ }
+{
+    if x != x {
+        return Checked::NotFinite;
+    }
+    let infinity = f32::from_bits(0x7f80_0000);
+    if x > limit {
+        if x == infinity {
+            return Checked::NotFinite;
+        }
+        return Checked::TooFar(x);
+    }
+    if x < -limit {
+        if x == -infinity {
+            return Checked::NotFinite;
+        }
+        return Checked::TooFar(x);
+    }
+    Checked::Within(x)
+}
+
+// Checks one factor.
+pub fn check_factor(x: f32) -> Checked
+    ensures answer { λ r. ⌜ r ≡ checkedOf factorLimit x ⌝ }
+    ensures number { λ r. ⌜ numberOf r ≡ refusalOf factorLimit x ⌝ }
+    ensures value { λ r. ⌜ valueOf r ≡ carriedBy x ⌝ }
+{
+    check_against(x, factor_limit())
+}
+
+// What a row of factors is answered: all are taken, or the number and place of the first that is not.
+pub enum Scanned {
+    Taken,
+    Refused(u32, usize),
+}
+
+// The first refused factor, by place.
+pub fn first_refused(factors: &[f32], limit: f32) -> Scanned
+    requires { ⌜ T (finite limit) ⌝ }
+    ensures { λ r. ⌜ r ≡ firstRefused limit (now (factors .entry)) ⌝ }
+{
+    let mut i = 0usize;
+    while i < factors.len() {
+        match check_against(factors[i], limit) {
+            Checked::Within(_) => {}
+            Checked::TooFar(_) => return Scanned::Refused(8, i),
+            Checked::NotFinite => return Scanned::Refused(7, i),
+        }
+        i += 1;
+    }
+    Scanned::Taken
+}

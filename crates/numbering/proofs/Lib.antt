@@ -1,0 +1,8 @@
+pub mod Offsets
+pub mod Columns
+pub mod Bijection
+pub mod Claims
+pub mod Corners
+pub mod Signs
+pub mod Suffix
+pub mod Walk

@@ -1,0 +1,3 @@
+pub mod Numbering
+pub mod Claims
+pub mod Corners

@@ -1,0 +1,79 @@
+-- One pulse, and single pulses one after another. Definitions only.
+use mathlib.Core.Bool.{Bool}
+use mathlib.Core.List.{List}
+use Prim.Native.Nat.{ℕ, zero, suc, _+_, _-_}
+use lib.IntN.{pos}
+use lib.ListN.{getD, set}
+use lib.Ieee.{Float, nan, binary32, ofBits, ofInt, add, mul, lt}
+use Rattle.float_laws.specs.Scan.{choose}
+use Rattle.pulse_search.specs.declared.SearchRecord.{SearchRecord}
+
+abbrev pub one : Float
+one = ofBits binary32 1065353216
+
+abbrev pub two : Float
+two = ofBits binary32 1073741824
+
+-- a place's pulses as a float
+abbrev pub amount : List ℕ → ℕ → Float
+amount y n = ofInt binary32 (pos (getD y n 0))
+
+-- c = correlation + a[n] and e = (energy + 2·pulses[n]) + 1: the pair with one pulse more at place n
+unfoldable pub pairAt : List Float → List ℕ → SearchRecord → ℕ → SearchRecord
+pairAt a y r n = record {
+  correlation = add binary32 (r .correlation) (getD a n nan);
+  energy = add binary32 (add binary32 (r .energy) (mul binary32 two (amount y n))) one;
+}
+
+-- c·c
+abbrev pub square : Float → Float
+square x = mul binary32 x x
+
+-- Place n replaces the best if (c·c)·e_best > (c·c)_best·e.
+unfoldable pub replaces : SearchRecord → SearchRecord → Bool
+replaces p best = lt (mul binary32 (square (best .correlation)) (p .energy)) (mul binary32 (square (p .correlation)) (best .energy))
+
+-- One pulse: start with place 0, then scan upward, to place n. Ties keep the earlier place.
+unfoldable pub bestTo : List Float → List ℕ → SearchRecord → ℕ → ℕ
+bestTo a y r zero = 0
+bestTo a y r (suc n) =
+    let best = bestTo a y r n in
+    choose (replaces (pairAt a y r (suc n)) (pairAt a y r best)) (suc n) best
+
+-- the pulses of a search, the pair that it keeps from one pulse to the next, and the pair that it hands on to the next shape
+pub record Search : Type 0 where
+  pub pulses : List ℕ
+  pub kept : SearchRecord
+  pub handed : SearchRecord
+
+-- with no pulse added the pair handed on is unchanged
+abbrev pub start : List ℕ → SearchRecord → Search
+start y r = record { pulses = y; kept = r; handed = r }
+
+-- As in the Rust, the pair handed on to the next shape is that of the last place scanned for the last pulse, not of the place chosen.
+unfoldable pub handedOn : SearchRecord → SearchRecord → SearchRecord
+handedOn scanned chosen = scanned
+
+-- one pulse over places 0 to last; between pulses of one shape the chosen place's pair is kept
+unfoldable pub onePulse : List Float → ℕ → Search → Search
+onePulse a last s =
+    let chosen = bestTo a (s .pulses) (s .kept) last in
+    record {
+      pulses = set (s .pulses) chosen (getD (s .pulses) chosen 0 + 1);
+      kept = pairAt a (s .pulses) (s .kept) chosen;
+      handed = handedOn (pairAt a (s .pulses) (s .kept) last) (pairAt a (s .pulses) (s .kept) chosen);
+    }
+
+-- k single pulses
+unfoldable pub more : List Float → ℕ → ℕ → Search → Search
+more a last zero s = s
+more a last (suc k) s = onePulse a last (more a last k s)
+
+-- the pulses of the first n places
+unfoldable pub totalTo : List ℕ → ℕ → ℕ
+totalTo y zero = 0
+totalTo y (suc n) = totalTo y n + getD y n 0
+
+-- single pulses up to k over places 0 to last, from what the shape before hands on
+abbrev pub upTo : List Float → ℕ → ℕ → Search → Search
+upTo a last k s = more a last (k - totalTo (s .pulses) (suc last)) (start (s .pulses) (s .handed))

@@ -1,0 +1,86 @@
+// Single pulses, each at the place that serves best: the search that shapes 3, 2 and 1 share. The running search
+// record goes through it by value. Public for the crates above only; every result is pinned by a definition.
+ghost use mathlib.Core.Path.{_≡_};
+ghost use Prim.Native.Nat.{_+_, _-_, _<_, _≤_};
+ghost use lib.ListN.{length};
+ghost use Rattle.pulse_search.specs.Pulse.{pairAt, replaces, bestTo, handedOn, start, more, totalTo};
+
+// The running search record: the correlation of the pulses with the target, and their energy.
+pub struct SearchRecord {
+    pub correlation: f32,
+    pub energy: f32,
+}
+
+// The pair with one pulse more at place n.
+fn pair_at(abs_x: &[f32; 16], y: &[u8; 16], r: SearchRecord, n: usize) -> SearchRecord
+    requires { ⌜ n < 16 ⌝ }
+    ensures { λ p. ⌜ p ≡ pairAt (now («abs_x» .entry)) (now (y .entry)) r n ⌝ }
+{
+    let pulses = y[n] as f32;
+    SearchRecord {
+        correlation: r.correlation + abs_x[n],
+        energy: (r.energy + 2.0 * pulses) + 1.0,
+    }
+}
+
+// The quotients c·c / e are compared by cross-multiplying.
+fn replaces(p: SearchRecord, best: SearchRecord) -> bool
+    ensures { λ r. ⌜ r ≡ replaces p best ⌝ }
+{
+    (best.correlation * best.correlation) * p.energy < (p.correlation * p.correlation) * best.energy
+}
+
+// The best of places 0 to last.
+fn best_place(abs_x: &[f32; 16], y: &[u8; 16], r: SearchRecord, last: usize) -> usize
+    requires { ⌜ last < 16 ⌝ }
+    ensures { λ p. ⌜ p ≡ bestTo (now («abs_x» .entry)) (now (y .entry)) r last ⌝ }
+{
+    let mut n_best = 0usize;
+    let mut best = pair_at(abs_x, y, r, 0);
+    let mut n = 0usize;
+    while n < last {
+        n += 1;
+        let p = pair_at(abs_x, y, r, n);
+        if replaces(p, best) {
+            n_best = n;
+            best = p;
+        }
+    }
+    n_best
+}
+
+// The pair for the next shape, of those of the last place scanned and of the place chosen.
+fn hand_on(scanned: SearchRecord, chosen: SearchRecord) -> SearchRecord
+    ensures { λ p. ⌜ p ≡ handedOn scanned chosen ⌝ }
+{
+    scanned
+}
+
+// From k pulses up to k_max, over places 0 to last; answers the pair that the next shape starts from.
+pub fn add_unit_pulse(
+    abs_x: &[f32; 16],
+    last: usize,
+    k: usize,
+    k_max: usize,
+    y: &mut [u8; 16],
+    r: SearchRecord,
+) -> SearchRecord
+    requires { ⌜ (last < 16) × (length (now y) ≡ 16) × (k ≤ «k_max») × (totalTo (now y) 16 + («k_max» - k) ≤ 255) ⌝ }
+    ensures pulses { λ p. ⌜ now (y .exit) ≡ more (now («abs_x» .entry)) last («k_max» - k) (start (now (y .entry)) r) .pulses ⌝ }
+    ensures handed { λ p. ⌜ p ≡ more (now («abs_x» .entry)) last («k_max» - k) (start (now (y .entry)) r) .handed ⌝ }
+{
+    let count = k_max - k;
+    let mut kept = r;
+    let mut handed = r;
+    let mut added = 0usize;
+    while added < count {
+        let n_best = best_place(abs_x, y, kept, last);
+        let scanned = pair_at(abs_x, y, kept, last);
+        let chosen = pair_at(abs_x, y, kept, n_best);
+        handed = hand_on(scanned, chosen);
+        kept = chosen;
+        y[n_best] = y[n_best] + 1;
+        added += 1;
+    }
+    handed
+}

@@ -1,0 +1,5 @@
+pub mod Projection
+pub mod Shapes
+pub mod Facts
+pub mod Sized
+pub mod Claims

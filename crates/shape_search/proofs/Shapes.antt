@@ -1,0 +1,84 @@
+-- One step more of each loop over the shapes' places. Assumes nothing.
+use mathlib.Core.Path.{_≡_, refl, sym, ap, _∙_}
+use mathlib.Core.Bool.{Bool, true, false}
+use mathlib.Core.List.{List, [], _∷_}
+use Prim.Native.Nat.{ℕ, zero, suc, _+_, _-_, _≤_, _<_}
+use native.Mathlib.Omega.{arith}
+use native.Mathlib.Numerals.{add-one}
+use lib.ListN.{length, getD, set}
+use lib.Ieee.{Float, nan, binary32, sub, lt}
+use Rattle.float_laws.specs.Scan.{choose}
+use Rattle.list_laws.specs.ListOf.{listOf}
+use Rattle.pulse_search.specs.declared.SearchRecord.{SearchRecord}
+use Rattle.pulse_search.specs.Pulse.{Search, start, more, totalTo, upTo}
+use Rattle.shape_search.specs.Projection.{termsOf, projection, begunOf}
+use Rattle.shape_search.specs.declared.Start.{Start}
+use Rattle.shape_search.specs.Shape.{shape3, shape2, lowOf, dropped, droppedTo, lowered, shape1, largestTo, shape0, shapePulses}
+use Rattle.shape_search.proofs.Facts.{three-total}
+
+pub dropped-zero : (r : SearchRecord) (w : ℕ) (x : Float) → w ≡ 0 → r ≡ dropped r w x
+unfolding dropped
+dropped-zero r zero x e = refl
+dropped-zero r (suc w) x e = absurd (omega arith)
+
+pub dropped-some : (r : SearchRecord) (w : ℕ) (x : Float) → (w ≡ 0 → ⊥)
+    → _≡_ {A = SearchRecord} (record { correlation = sub binary32 (r .correlation) (termsOf w x .correlation); energy = sub binary32 (r .energy) (termsOf w x .energy) }) (dropped r w x)
+unfolding dropped
+dropped-some r zero x h = absurd (h refl)
+dropped-some r (suc w) x h = refl
+
+-- ---- the largest place from 10 on
+pub largest-move : (a : List Float) (n b : ℕ) → b ≡ largestTo a n → lt (getD a b nan) (getD a (10 + (n + 1)) nan) ≡ true → 10 + (n + 1) ≡ largestTo a (n + 1)
+unfolding largestTo
+largest-move a n b e w = rw (add-one n) (go (rw add-one at w))
+  where
+    go : lt (getD a b nan) (getD a (10 + suc n) nan) ≡ true → 10 + suc n ≡ largestTo a (suc n)
+    go v = sym (ap (λ (z : Bool). choose z (10 + suc n) (largestTo a n)) (rw e at v))
+
+pub largest-keep : (a : List Float) (n b : ℕ) → b ≡ largestTo a n → lt (getD a b nan) (getD a (10 + (n + 1)) nan) ≡ false → b ≡ largestTo a (n + 1)
+unfolding largestTo
+largest-keep a n b e w = rw (add-one n) (go (rw add-one at w))
+  where
+    go : lt (getD a b nan) (getD a (10 + suc n) nan) ≡ false → b ≡ largestTo a (suc n)
+    go v = e ∙ sym (ap (λ (z : Bool). choose z (10 + suc n) (largestTo a n)) (rw e at v))
+
+-- ---- from shape to shape, as the code goes on: its pulses and its pair are those of the search s
+pub record Reached (s : Search) (y : List ℕ) (r : SearchRecord) : Type 0 where
+  pub pulses : y ≡ s .pulses
+  pub handed : r ≡ s .handed
+
+pub begun : (s : Search) (b : Start) → b ≡ begunOf s → Reached s (b .y) (b .pair)
+begun s b e = record { pulses = ap (λ (b : Start). b .y) e; handed = ap (λ (b : Start). b .pair) e }
+
+-- `add_unit_pulse` from k pulses up to m
+module _ (a : List Float) (s : Search) (y : List ℕ) (r : SearchRecord) (h : Reached s y r) where
+  on : (last k m : ℕ) → k ≡ totalTo (s .pulses) (suc last) → (z : List ℕ) (p : SearchRecord) → z ≡ more a last (m - k) (start y r) .pulses → p ≡ more a last (m - k) (start y r) .handed
+      → Reached (upTo a last m s) z p
+  on last k m t z p i j = record { pulses = rw (h .pulses, h .handed, t) at i; handed = rw (h .pulses, h .handed, t) at j }
+
+  pub on-low : (z : List ℕ) (p : SearchRecord) → z ≡ lowOf y → p ≡ droppedTo a y r 6 → Reached (lowered a s) z p
+  unfolding lowered
+  on-low z p i j = record { pulses = rw (h .pulses) at i; handed = rw (h .pulses, h .handed) at j }
+
+  -- the room that it asks, for a total of at most t
+  pub room : (last k m t : ℕ) → last < 16 → length (s .pulses) ≡ 16 → totalTo (s .pulses) 16 ≤ t → k ≤ m → t + m ≤ 255 → (last < 16) × (length y ≡ 16) × (k ≤ m) × (totalTo y 16 + (m - k) ≤ 255)
+  room last k m t i l g j u = (i, ap length (h .pulses) ∙ l, j, omega (arith, ap (λ (z : List ℕ). totalTo z 16) (h .pulses)))
+
+module _ (a : List Float) (y z : List ℕ) (r p : SearchRecord) (k : ℕ) where
+  pub on-three : Reached (projection a) y r → k ≡ totalTo (projection a .pulses) 16 → z ≡ more a 15 (6 - k) (start y r) .pulses → p ≡ more a 15 (6 - k) (start y r) .handed → Reached (shape3 a) z p
+  unfolding shape3
+  on-three h t i j = on a (projection a) y r h 15 k 6 t z p i j
+
+  pub on-two : Reached (shape3 a) y r → z ≡ more a 15 (8 - 6) (start y r) .pulses → p ≡ more a 15 (8 - 6) (start y r) .handed → Reached (shape2 a) z p
+  unfolding shape2
+  on-two h i j = on a (shape3 a) y r h 15 6 8 (sym (three-total a)) z p i j
+
+  pub on-one : Reached (lowered a (shape2 a)) y r → k ≡ totalTo y 10 → z ≡ more a 9 (10 - k) (start y r) .pulses → p ≡ more a 9 (10 - k) (start y r) .handed → Reached (shape1 a) z p
+  unfolding shape1
+  on-one h t i j = on a (lowered a (shape2 a)) y r h 9 k 10 (t ∙ ap (λ (w : List ℕ). totalTo w 10) (h .pulses)) z p i j
+
+-- ---- all four
+pub four-are : (a : List Float) (y0 y1 y2 y3 : List ℕ) (b : ℕ) → y1 ≡ shape1 a .pulses → b ≡ largestTo a 5 → y2 ≡ shape2 a .pulses → y3 ≡ shape3 a .pulses → y0 ≡ y1
+    → set y0 b 1 ∷ y1 ∷ y2 ∷ y3 ∷ [] ≡ listOf 4 (shapePulses a)
+unfolding listOf shapePulses shape0
+four-are a y0 y1 y2 y3 b e1 eb e2 e3 e0 = rw (e0, e1, eb, e2, e3)

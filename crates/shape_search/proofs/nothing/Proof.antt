@@ -1,0 +1,14 @@
+-- The code is the definition.
+use mathlib.Core.Path.{refl}
+use Prim.Native.Nat.{_-_}
+use Rattle.list_laws.specs.ListOf.{listOf}
+use Rattle.pulse_search.specs.Pulse.{totalTo}
+use Rattle.shape_search.proofs.nothing.Statement.{statement}
+use Rattle.shape_search.proofs.nothing.Tie as tie
+
+returns : tie.Need-returns
+unfolding listOf totalTo
+returns c = refl
+
+pub nothing-spec : {M : Type 1} → statement M
+nothing-spec = tie.close (tie.spec returns)

@@ -1,0 +1,50 @@
+-- What is shown of the shapes. Definitions only; the proofs are in proofs/Claims and proofs/Sized.
+use mathlib.Core.Path.{_≡_}
+use mathlib.Core.List.{List, [], _∷_}
+use Prim.Native.Nat.{ℕ, suc, _-_, _≤_, _<_}
+use lib.Dec.{T}
+use lib.ListN.{length}
+use lib.Ieee.{Float, binary32, mul}
+use Rattle.float_laws.specs.Bounded.{Bounded}
+use Rattle.float_laws.specs.Kind.{finite}
+use Rattle.list_laws.specs.ListOf.{listOf}
+use Rattle.pulse_search.specs.Pulse.{square, pairAt, Search, start, more, totalTo}
+use Rattle.shape_search.specs.Projection.{projection}
+use Rattle.shape_search.specs.Shape.{shape3, shape2, lowered, shapePulses, squareTo}
+
+-- each shape's pulses add up to exactly its count, for every a: ten and one, ten, eight, six
+abbrev pub Totals : Type 0
+Totals = (a : List Float) → listOf 4 (λ s. totalTo (shapePulses a s) 16) ≡ 11 ∷ 10 ∷ 8 ∷ 6 ∷ []
+
+-- of shapes 0 and 1, ten are on places 0 to 9
+abbrev pub LowTotals : Type 0
+LowTotals = (a : List Float) (s : ℕ) → s < 2 → totalTo (shapePulses a s) 10 ≡ 10
+
+-- each shape has sixteen places, and a squared length from 1 to 101
+pub record Sound (y : List ℕ) : Type 0 where
+  pub places : length y ≡ 16
+  pub some : 1 ≤ squareTo y 16
+  pub few : squareTo y 16 ≤ 101
+
+abbrev pub ShapesSound : Type 0
+ShapesSound = (a : List Float) (s : ℕ) → Sound (shapePulses a s)
+
+-- while k single pulses are sought over places 0 to last, every product that is compared is finite
+abbrev pub Compares : List Float → ℕ → ℕ → Search → Type 0
+Compares a last k s =
+    (i : ℕ) → i < k → (n m : ℕ) → n < 16 → m < 16
+    → T (finite (mul binary32 (square (pairAt a (more a last i s .pulses) (more a last i s .kept) n .correlation)) (pairAt a (more a last i s .pulses) (more a last i s .kept) m .energy)))
+
+-- the search up to k pulses, from what s hands on
+abbrev pub Searches : List Float → ℕ → ℕ → Search → Type 0
+Searches a last k s = Compares a last (k - totalTo (s .pulses) (suc last)) (start (s .pulses) (s .handed))
+
+-- the three searches
+pub record Finite (a : List Float) : Type 0 where
+  pub three : Searches a 15 6 (projection a)
+  pub two : Searches a 15 8 (shape3 a)
+  pub one : Searches a 9 10 (lowered a (shape2 a))
+
+-- no compared value is NaN or infinite, though correlation and energy go below zero
+abbrev pub SearchesFinite : Type 0
+SearchesFinite = (a : List Float) → Bounded 16 16384 a → Finite a

@@ -1,0 +1,96 @@
+-- Shape 3's start: the projection, and when it is dropped. Definitions only.
+use mathlib.Core.Path.{_≡_}
+use mathlib.Core.Bool.{Bool, true, false, not, _||_}
+use mathlib.Core.List.{List}
+use Prim.Native.Nat.{ℕ, zero, suc, _<_}
+use lib.Dec.{T, ltb}
+use lib.IntN.{pos}
+use lib.ListN.{getD}
+use lib.Ieee.{Float, nan, binary32, ofBits, ofInt, add, mul, div, lt, le}
+use Rattle.float_laws.specs.Absolute.{absOf}
+use Rattle.float_laws.specs.Kind.{finite}
+use Rattle.float_laws.specs.Floor.{floorOf}
+use Rattle.float_laws.specs.Running.{sumTo}
+use Rattle.list_laws.specs.ListOf.{listOf}
+use Rattle.list_laws.specs.Some.{someBelow}
+use Rattle.pulse_search.specs.declared.SearchRecord.{SearchRecord}
+use Rattle.pulse_search.specs.Pulse.{Search, start, totalTo}
+use Rattle.shape_search.specs.declared.Start.{Start}
+
+abbrev pub nought : Float
+nought = ofBits binary32 0
+
+abbrev pub five : Float
+five = ofBits binary32 1084227584
+
+abbrev pub seven : Float
+seven = ofBits binary32 1088421888
+
+-- each place of a is an absolute value
+abbrev pub Absolutes : List Float → Type 0
+Absolutes a = (n : ℕ) → n < 16 → absOf (getD a n nan) ≡ getD a n nan
+
+-- project each a by (5 / sum of a)
+unfoldable pub factorOf : List Float → Float
+factorOf a = div binary32 five (sumTo (λ n. getD a n nan) 16)
+
+unfoldable pub productAt : List Float → ℕ → Float
+productAt a n = mul binary32 (getD a n nan) (factorOf a)
+
+-- rounded down
+unfoldable pub projectedOf : List Float → List ℕ
+projectedOf a = listOf 16 (λ n. floorOf (productAt a n))
+
+-- a place's two terms for correlation (pulses times a) and energy (pulses squared)
+unfoldable pub termsOf : ℕ → Float → SearchRecord
+termsOf w x = record { correlation = mul binary32 (ofInt binary32 (pos w)) x; energy = mul binary32 (ofInt binary32 (pos w)) (ofInt binary32 (pos w)) }
+
+-- they are added where the pulses are not zero
+unfoldable pub joined : SearchRecord → ℕ → Float → SearchRecord
+joined r zero x = r
+joined r (suc w) x = record {
+  correlation = add binary32 (r .correlation) (termsOf (suc w) x .correlation);
+  energy = add binary32 (r .energy) (termsOf (suc w) x .energy);
+}
+
+abbrev pub none : SearchRecord
+none = record { correlation = nought; energy = nought }
+
+-- correlation and energy add up over pulses that are not zero: the first n places
+unfoldable pub joinedTo : List Float → List ℕ → ℕ → SearchRecord
+joinedTo a y zero = none
+joinedTo a y (suc n) = joined (joinedTo a y n) (getD y n 0) (getD a n nan)
+
+-- a projected product that isn't finite
+unfoldable pub someNotFinite : List Float → Bool
+someNotFinite a = someBelow 16 (λ n. not (finite (productAt a n)))
+
+-- or is 7 or more
+unfoldable pub someSeven : List Float → Bool
+someSeven a = someBelow 16 (λ n. le seven (productAt a n))
+
+-- or a projected total over 6
+unfoldable pub totalOverSix : List Float → Bool
+totalOverSix a = ltb 6 (totalTo (projectedOf a) 16)
+
+-- no product is as large as 7
+abbrev pub AllBelowSeven : List Float → Type 0
+AllBelowSeven a = (n : ℕ) → n < 16 → T (lt (productAt a n) seven)
+
+abbrev pub zeros : List ℕ
+zeros = listOf 16 (λ n. 0)
+
+abbrev pub unless : Bool → Search → Search → Search
+unless true s d = d
+unless false s d = s
+
+-- drops the projection: no pulses, correlation and energy 0
+unfoldable pub projection : List Float → Search
+projection a =
+    unless ((someNotFinite a || someSeven a) || totalOverSix a)
+    (start (projectedOf a) (joinedTo a (projectedOf a) 16))
+    (start zeros none)
+
+-- as the code holds it: the pulses, how many there are, and their pair
+abbrev pub begunOf : Search → Start
+begunOf s = record { y = s .pulses; k = totalTo (s .pulses) 16; pair = s .handed }

@@ -1,0 +1,7 @@
+pub mod Answers
+pub mod Elements
+pub mod CheckFactor
+pub mod Interpolate
+pub mod Unpack
+pub mod Pack
+pub mod Claims

@@ -1,0 +1,33 @@
+// Spectral noise shaping of LC3: the public calls. Nothing is required of a caller; every call returns on every input, and
+// states its whole answer and every element of each lent buffer. Each call has a file of its own:
+//   check_factor   one factor against the limit
+//   interpolate    sixteen factors into 60 or 64 bands
+//   pack           a pulse vector into its index and lead sign
+//   unpack         an index and a lead sign into the pulse vector
+pub mod check_factor;
+pub mod interpolate;
+pub mod pack;
+pub mod unpack;
+
+ghost use mathlib.Core.Path.{_≡_};
+ghost use lib.ListN.{length};
+
+// Done, or no, with the number of the refusal and a place.
+pub enum Answer {
+    Done,
+    No(u32, usize),
+}
+
+// The elements of a lent row of sixteen.
+fn sixteen(row: &[f32]) -> [f32; 16]
+    requires { ⌜ length (now row) ≡ 16 ⌝ }
+    ensures { λ r. ⌜ r ≡ now (row .entry) ⌝ }
+{
+    let mut copy = [0.0f32; 16];
+    let mut n = 0usize;
+    while n < 16 {
+        copy[n] = row[n];
+        n += 1;
+    }
+    copy
+}

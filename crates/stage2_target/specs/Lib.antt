@@ -1,0 +1,2 @@
+pub mod Target
+pub mod Claims

@@ -1,0 +1,4 @@
+pub mod Sums
+pub mod Squares
+pub mod Within
+pub mod Claims

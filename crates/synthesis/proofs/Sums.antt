@@ -1,0 +1,70 @@
+-- One step of each sum and of each list that a loop makes. Assumes nothing.
+use mathlib.Core.Path.{_≡_, refl, sym, _∙_}
+use mathlib.Core.List.{List, []}
+use Prim.Native.Nat.{ℕ, _+_, _-_, _*_, _≤_, _<_}
+use native.Mathlib.Numerals.{add-one}
+use native.Mathlib.Omega.{arith}
+use borrow.Author.Tests.{lt-ltb, le-ltb}
+use lib.IntN.{ℤ, pos, natAbs}
+use lib.ListN.{length, getD, drop, set, length-map, List·getD-map, drop-of-length-le}
+use lib.Seq.{drop-cons}
+use lib.Ieee.{Float, nan, binary32, ofBits, ofInt, add, mul}
+use Rattle.float_laws.specs.Decimal.{plus}
+use Rattle.list_laws.specs.ListOf.{listOf}
+use Rattle.list_laws.proofs.ListOf.{is-listOf, getD-listOf, same-listOf}
+use Rattle.list_laws.proofs.Range.{Holds, holds-above, holds-below, holds-up}
+use Rattle.sns_tables.specs.Codebooks.{lfcbRows, hfcbRows, codeAt}
+use Rattle.sns_tables.specs.Rotation.{dColumns}
+use Rattle.sns_tables.proofs.Rotation.{column-entry}
+use Rattle.synthesis.specs.Synthesis.{squaresOf, scaleOf, codeOf, columnsTo, synthesised, floatsOf, factorOf, factorsOf}
+
+-- the squares from k on: the one at k, and the others
+pub squares-at : (y : List ℤ) (k : ℕ) → k < length y → squaresOf (drop k y) ≡ natAbs (getD y k (pos 0)) * natAbs (getD y k (pos 0)) + squaresOf (drop (k + 1) y)
+unfolding squaresOf
+squares-at y k h = rw (drop-cons y k (pos 0) h, add-one)
+
+pub squares-end : (y : List ℤ) (k : ℕ) → length y ≤ k → squaresOf (drop k y) ≡ 0
+unfolding squaresOf
+squares-end y k h = rw (drop-of-length-le y h)
+
+-- sixteen pulses as floats
+pub floats-are : (y : List ℤ) → length y ≡ 16 → listOf 16 (λ k. ofInt binary32 (getD y k (pos 0))) ≡ floatsOf y
+floats-are y l = sym (is-listOf 16 (λ k. ofInt binary32 (getD y k (pos 0))) (ofInt binary32 (pos 0)) (floatsOf y) (length-map y (ofInt binary32) ∙ l) (λ i h. List·getD-map (ofInt binary32) y i (pos 0)))
+
+-- the sum over columns
+pub columns-none : (x : List Float) (n : ℕ) → ofBits binary32 0 ≡ columnsTo x n 0
+unfolding columnsTo plus ofBits
+columns-none x n = refl
+
+pub columns-more : (x : List Float) (n col : ℕ) (d : List (List Float)) (s : Float) → d ≡ dColumns → n < 16 → col < 16 → s ≡ columnsTo x n col
+    → add binary32 s (mul binary32 (getD x col nan) (getD (getD d col []) n nan)) ≡ columnsTo x n (col + 1)
+unfolding columnsTo
+columns-more x n col d s e h l p = rw (e, p, add-one, column-entry n col h l)
+
+-- a turn of the codes: place n of the low row, and of the high row
+pub codes-more : (low high n : ℕ) (l h : List (List Float)) (ys : List Float) → l ≡ lfcbRows → h ≡ hfcbRows → n < 8
+    → Holds nan (codeOf low high) 16 ys 0 n × Holds nan (codeOf low high) 16 ys 8 (n + 8)
+    → Holds nan (codeOf low high) 16 (set (set ys n (codeAt l low n)) (n + 8) (codeAt h high n)) 0 (n + 1)
+    × Holds nan (codeOf low high) 16 (set (set ys n (codeAt l low n)) (n + 8) (codeAt h high n)) 8 (n + 1 + 8)
+codes-more low high n l h ys p q b w =
+    let g = codeOf low high in
+    let v = codeAt l low n in
+    let u = codeAt h high n in (
+      holds-above nan g 16 (set ys n v) (n + 8) u 0 (n + 1) (omega arith) (holds-up nan g 16 ys n v 0 n (n + 1) refl refl (omega arith) low-is (w .0)),
+      holds-up nan g 16 (set ys n v) (n + 8) u 8 (n + 8) (n + 1 + 8) refl (omega arith) (omega arith) high-is (holds-below nan g 16 ys n v 8 (n + 8) b (w .1)),
+    )
+  where
+    low-is : codeAt l low n ≡ codeOf low high n
+    low-is = rw (p, lt-ltb n 8 b)
+
+    back : n + 8 - 8 ≡ n
+    back = omega arith
+
+    high-is : codeAt h high n ≡ codeOf low high (n + 8)
+    high-is = rw (q, le-ltb (n + 8) 8 (omega arith), back)
+
+-- the factors, of lent codes, floats and scale
+pub factors-are : (low high shape gain : ℕ) (y : List ℤ) (code x : List Float) (g : Float) → code ≡ listOf 16 (codeOf low high) → x ≡ floatsOf y → g ≡ scaleOf shape gain y
+    → listOf 16 (synthesised (λ n. getD code n nan) x g) ≡ factorsOf low high shape gain y
+factors-are low high shape gain y code x g p q r =
+    same-listOf 16 (synthesised (λ n. getD code n nan) x g) (factorOf low high shape gain y) (λ n h. rw (p, q, r, getD-listOf 16 (codeOf low high) nan n h))

@@ -1,0 +1,68 @@
+-- The decoder's synthesis: the length of the pulses, the gain divided by it, and the sixteen factors. Definitions only.
+use mathlib.Core.Path.{_≡_}
+use mathlib.Core.List.{List, [], _∷_, map}
+use Prim.Native.Nat.{ℕ, zero, suc, _+_, _-_, _*_, _≤_, _<_}
+use lib.Dec.{ltb}
+use lib.IntN.{ℤ, pos, natAbs}
+use lib.ListN.{length, getD}
+use lib.Ieee.{Float, nan, binary32, ofInt, add, mul, div}
+use mathlib.Core.Bool.{cond}
+use Rattle.float_laws.specs.Decimal.{plus}
+use Rattle.list_laws.specs.ListOf.{listOf}
+use Rattle.sns_tables.specs.Codebooks.{lfcbRows, hfcbRows, codeAt}
+use Rattle.sns_tables.specs.Rotation.{dAt}
+use Rattle.sns_tables.specs.Gains.{gainsOf, gainAt}
+use Rattle.decoder_pulses.specs.Pulses.{Shaped}
+use Rattle.roots.specs.Root.{rootOf}
+
+-- what is synthesised: rows, shape and gain within their tables, and pulses of the shape
+pub record Accepted (low high shape gain : ℕ) (y : List ℤ) : Type 0 where
+  pub low-row : low < 32
+  pub high-row : high < 32
+  pub shape-below : shape < 4
+  pub gain-below : gain < gainsOf shape
+  pub shaped : Shaped shape y
+
+-- ---- their length r, the root of the sum of their squares
+unfoldable pub squaresOf : List ℤ → ℕ
+squaresOf [] = 0
+squaresOf (y ∷ ys) = natAbs y * natAbs y + squaresOf ys
+
+abbrev pub lengthOf : List ℤ → Float
+lengthOf y = rootOf (squaresOf y)
+
+-- what the pulses of a shape are like: sixteen, each at most 10 in size, with a squared length from 1 to 101
+pub record Sixteen (y : List ℤ) : Type 0 where
+  pub places : length y ≡ 16
+  pub small : (k : ℕ) → k < 16 → natAbs (getD y k (pos 0)) ≤ 10
+  pub above : 1 ≤ squaresOf y
+  pub below : squaresOf y ≤ 101
+
+-- ---- gain g divided by r
+abbrev pub scaleOf : ℕ → ℕ → List ℤ → Float
+scaleOf shape gain y = div binary32 (gainAt shape gain) (lengthOf y)
+
+-- ---- the factors
+-- code n: the low row's for places 0 to 7, the high row's for 8 to 15
+abbrev pub codeOf : ℕ → ℕ → ℕ → Float
+codeOf low high n = cond (ltb n 8) (codeAt lfcbRows low n) (codeAt hfcbRows high (n - 8))
+
+-- the sum over columns, from 0.0, of x times D[n][column]: the first so many columns
+unfoldable pub columnsTo : List Float → ℕ → ℕ → Float
+columnsTo x n zero = plus 0 0
+columnsTo x n (suc column) = add binary32 (columnsTo x n column) (mul binary32 (getD x column nan) (dAt n column))
+
+-- code n + g times the sum over columns
+abbrev pub synthesised : (ℕ → Float) → List Float → Float → ℕ → Float
+synthesised code x g n = add binary32 (code n) (mul binary32 g (columnsTo x n 16))
+
+-- the pulses as floats
+abbrev pub floatsOf : List ℤ → List Float
+floatsOf y = map (ofInt binary32) y
+
+-- factor n = code n + (g/r) times the sum over columns of y times D[n][column]
+abbrev pub factorOf : ℕ → ℕ → ℕ → ℕ → List ℤ → ℕ → Float
+factorOf low high shape gain y n = synthesised (codeOf low high) (floatsOf y) (scaleOf shape gain y) n
+
+abbrev pub factorsOf : ℕ → ℕ → ℕ → ℕ → List ℤ → List Float
+factorsOf low high shape gain y = listOf 16 (factorOf low high shape gain y)

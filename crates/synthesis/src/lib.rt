@@ -1,0 +1,144 @@
+// The decoder's synthesis: sixteen factors of two codebook rows, a shape's pulses and a gain. Public for the crates
+// above only: a caller lends the tables and shows the `requires`. Every result is pinned.
+ghost use mathlib.Core.Path.{_≡_};
+ghost use Prim.Native.Nat.{_<_, _≤_, _*_};
+ghost use lib.IntN.{natAbs};
+ghost use lib.ListN.{getD};
+ghost use lib.Ieee.{nan, binary32, ofInt};
+ghost use Rattle.list_laws.specs.ListOf.{listOf};
+ghost use Rattle.sns_tables.specs.Codebooks.{lfcbRows, hfcbRows};
+ghost use Rattle.sns_tables.specs.Rotation.{dColumns};
+ghost use Rattle.sns_tables.specs.Gains.{gainsOf, gainAt};
+ghost use Rattle.roots.specs.Root.{rootTable};
+ghost use Rattle.synthesis.specs.Synthesis.{Accepted, Sixteen, squaresOf, scaleOf, codeOf, columnsTo, synthesised, floatsOf, factorsOf};
+use sns_tables::spec_noise_shape_quant_tables as tables;
+
+// A pulse squared.
+fn square(y: i32) -> usize
+    requires { ⌜ natAbs y ≤ 10 ⌝ }
+    ensures { λ r. ⌜ r ≡ natAbs y * natAbs y ⌝ }
+{
+    (y * y) as usize
+}
+
+// A pulse as a float.
+fn pulse(y: i32) -> f32
+    requires { ⌜ natAbs y ≤ 10 ⌝ }
+    ensures { λ r. ⌜ r ≡ ofInt binary32 y ⌝ }
+{
+    y as f32
+}
+
+// The squared length of sixteen pulses.
+fn squared_length(y: &[i32; 16]) -> usize
+    requires { ⌜ Sixteen (now y) ⌝ }
+    ensures { λ r. ⌜ r ≡ squaresOf (now (y .entry)) ⌝ }
+{
+    let mut sum = 0usize;
+    let mut k = 0usize;
+    while k < 16 {
+        sum += square(y[k]);
+        k += 1;
+    }
+    sum
+}
+
+// Sixteen pulses as floats.
+fn floats(y: &[i32; 16]) -> [f32; 16]
+    requires { ⌜ Sixteen (now y) ⌝ }
+    ensures { λ r. ⌜ r ≡ floatsOf (now (y .entry)) ⌝ }
+{
+    let mut x = [0.0f32; 16];
+    let mut k = 0usize;
+    while k < 16 {
+        x[k] = pulse(y[k]);
+        k += 1;
+    }
+    x
+}
+
+// A shape's gain.
+fn adj_gain(shape: usize, gain: usize) -> f32
+    requires { ⌜ (shape < 4) × (gain < gainsOf shape) ⌝ }
+    ensures { λ r. ⌜ r ≡ gainAt shape gain ⌝ }
+{
+    match shape {
+        0 => tables::sns_vq_reg_adj_gains()[gain],
+        1 => tables::sns_vq_reg_lf_adj_gains()[gain],
+        2 => tables::sns_vq_near_adj_gains()[gain],
+        _ => tables::sns_vq_far_adj_gains()[gain],
+    }
+}
+
+// The gain divided by the pulses' length.
+fn scale(roots: &[f32; 101], shape: usize, gain: usize, y: &[i32; 16]) -> f32
+    requires { ⌜ (now roots ≡ rootTable) × (shape < 4) × (gain < gainsOf shape) × Sixteen (now y) ⌝ }
+    ensures { λ r. ⌜ r ≡ scaleOf shape gain (now (y .entry)) ⌝ }
+{
+    adj_gain(shape, gain) / roots::root(roots, squared_length(y))
+}
+
+// The codes of a low row and a high row, from their lent tables.
+pub fn codes(lfcb: &[[f32; 8]; 32], hfcb: &[[f32; 8]; 32], low: usize, high: usize) -> [f32; 16]
+    requires { ⌜ (now lfcb ≡ lfcbRows) × (now hfcb ≡ hfcbRows) × (low < 32) × (high < 32) ⌝ }
+    ensures { λ r. ⌜ r ≡ listOf 16 (codeOf low high) ⌝ }
+{
+    let mut code = [0.0f32; 16];
+    let mut n = 0usize;
+    while n < 8 {
+        code[n] = lfcb[low][n];
+        code[n + 8] = hfcb[high][n];
+        n += 1;
+    }
+    code
+}
+
+// The sum over columns of row n. D comes by columns, so that sixteen sums are made side by side.
+fn column_sum(d: &[[f32; 16]; 16], x: &[f32; 16], n: usize) -> f32
+    requires { ⌜ (now d ≡ dColumns) × (n < 16) ⌝ }
+    ensures { λ r. ⌜ r ≡ columnsTo (now (x .entry)) n 16 ⌝ }
+{
+    let mut factor = 0.0f32;
+    let mut col = 0usize;
+    while col < 16 {
+        factor = factor + x[col] * d[col][n];
+        col += 1;
+    }
+    factor
+}
+
+// Sixteen factors of sixteen codes, a vector x and what it is multiplied by.
+pub fn synthesise(d: &[[f32; 16]; 16], code: &[f32; 16], x: &[f32; 16], g: f32) -> [f32; 16]
+    requires { ⌜ now d ≡ dColumns ⌝ }
+    ensures { λ r. ⌜ r ≡ listOf 16 (synthesised (λ n. getD (now (code .entry)) n nan) (now (x .entry)) g) ⌝ }
+{
+    let mut factors = [0.0f32; 16];
+    let mut n = 0usize;
+    while n < 16 {
+        factors[n] = code[n] + g * column_sum(d, x, n);
+        n += 1;
+    }
+    factors
+}
+
+// The sixteen factors of sixteen pulses.
+pub fn factors(
+    lfcb: &[[f32; 8]; 32],
+    hfcb: &[[f32; 8]; 32],
+    d: &[[f32; 16]; 16],
+    roots: &[f32; 101],
+    low: usize,
+    high: usize,
+    shape: usize,
+    gain: usize,
+    y: &[i32; 16],
+) -> [f32; 16]
+    requires { ⌜ (now lfcb ≡ lfcbRows) × (now hfcb ≡ hfcbRows) × (now d ≡ dColumns) × (now roots ≡ rootTable) ⌝ }
+    requires { ⌜ Accepted low high shape gain (now y) ⌝ }
+    ensures { λ r. ⌜ r ≡ factorsOf low high shape gain (now (y .entry)) ⌝ }
+{
+    let code = codes(lfcb, hfcb, low, high);
+    let x = floats(y);
+    let g = scale(roots, shape, gain, y);
+    synthesise(d, &code, &x, g)
+}
