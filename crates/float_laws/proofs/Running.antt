@@ -1,7 +1,7 @@
 -- A running sum: no term, one term more, its size, and that it has no minus sign where its terms have none. Assumes nothing.
 use mathlib.Core.Path.{_≡_, refl, sym, subst}
 use Prim.Native.Nat.{ℕ, zero, suc, _+_, _*_, _^_, _≤_, _<_, zero-le}
-use native.Mathlib.Nat.{le-refl, le-trans, le-suc, mul-le-mul-left, mul-zero}
+use native.Mathlib.Nat.{le-trans, le-suc, mul-le-mul-left, mul-zero}
 use native.Mathlib.Numerals.{add-one}
 use native.Mathlib.Omega.{arith}
 use lib.Dec.{T, lit<}

@@ -4,6 +4,6 @@ pub mod Decimal
 pub mod Absolute
 pub mod Least
 pub mod Running
-pub mod Scan
 pub mod Floor
+pub mod Scan
 pub mod Bounded

@@ -1,6 +1,6 @@
 -- The first strictly smallest of floats d 0, d 1, .., as a scan finds it. Definitions only.
-use Prim.Native.Nat.{ℕ, zero, suc}
 use mathlib.Core.Bool.{Bool, true, false}
+use Prim.Native.Nat.{ℕ, zero, suc}
 use lib.Ieee.{Float, lt}
 
 abbrev pub choose : Bool → ℕ → ℕ → ℕ

@@ -1,20 +1,20 @@
 -- The sixteen codes of two rows: from which codebook each comes, and how large it is. Assumes nothing.
 use mathlib.Core.Path.{_≡_, refl}
-use mathlib.Core.Bool.{Bool, true, false, not}
+use mathlib.Core.Bool.{Bool, true, false, not, cond}
 use Prim.Native.Nat.{ℕ, _-_, _<_, _≤_}
 use native.Mathlib.Omega.{arith}
 use lib.Dec.{T, ltb, lt→ltb, ltb→lt, nltb→le, not-T}
 use lib.Ieee.{Float}
 use Rattle.float_laws.specs.Size.{Within}
 use Rattle.sns_tables.specs.Codebooks.{lfcbRows, hfcbRows, codeAt}
-use Rattle.sns_tables.specs.Codes.{either, codeOf}
+use Rattle.sns_tables.specs.Codes.{codeOf}
 use Rattle.sns_tables.proofs.Sizes.{lfcb-grid, hfcb-grid}
 
-first : (b : Bool) (x y : Float) → T b → x ≡ either b x y
+first : (b : Bool) (x y : Float) → T b → x ≡ cond b x y
 first true x y t = refl
 first false x y t = absurd t
 
-second : (b : Bool) (x y : Float) → T (not b) → y ≡ either b x y
+second : (b : Bool) (x y : Float) → T (not b) → y ≡ cond b x y
 second true x y t = absurd t
 second false x y t = refl
 
@@ -35,6 +35,6 @@ code-within low high n h k l = by-half (ltb n 8) (λ t. lfcb-grid .size low n h 
     after g = omega arith
 
     by-half : (b : Bool) → (T b → Within (codeAt lfcbRows low n) 5 1) → (T (not b) → Within (codeAt hfcbRows high (n - 8)) 5 1)
-        → Within (either b (codeAt lfcbRows low n) (codeAt hfcbRows high (n - 8))) 5 1
+        → Within (cond b (codeAt lfcbRows low n) (codeAt hfcbRows high (n - 8))) 5 1
     by-half true p q = p tt
     by-half false p q = q tt

@@ -1,14 +1,10 @@
 -- The sixteen codes of a low and a high row. Definitions only.
-use mathlib.Core.Bool.{Bool, true, false}
+use mathlib.Core.Bool.{cond}
 use Prim.Native.Nat.{ℕ, _-_}
 use lib.Dec.{ltb}
 use lib.Ieee.{Float}
 use Rattle.sns_tables.specs.Codebooks.{lfcbRows, hfcbRows, codeAt}
 
-abbrev pub either : Bool → Float → Float → Float
-either true a b = a
-either false a b = b
-
 -- the code at one of the sixteen places: the low row's eight, then the high row's eight
 abbrev pub codeOf : ℕ → ℕ → ℕ → Float
-codeOf low high n = either (ltb n 8) (codeAt lfcbRows low n) (codeAt hfcbRows high (n - 8))
+codeOf low high n = cond (ltb n 8) (codeAt lfcbRows low n) (codeAt hfcbRows high (n - 8))

@@ -6,8 +6,10 @@ use Prim.Native.Nat.{ℕ, _+_, _<_}
 use native.Mathlib.Nat.{le-refl}
 use native.Mathlib.Omega.{arith}
 use lib.Dec.{T}
-use lib.Ieee.{Float, binary32, sub, isNan}
+use lib.ListN.{getD}
+use lib.Ieee.{Float, nan, binary32, sub, isNan}
 use Rattle.float_laws.specs.Kind.{finite}
+use Rattle.float_laws.specs.Bounded.{Bounded}
 use Rattle.float_laws.proofs.NoNan.{plain-no-nan, finite-no-nan, sub-no-nan, square-plain}
 use Rattle.float_laws.proofs.Size.{within-finite}
 use Rattle.float_laws.proofs.Running.{sum-plain}
@@ -54,6 +56,10 @@ low-only x f row h = first-unique (lowDistance x) 32 row (lowRow x) h (low-first
 
 pub high-only : High-only
 high-only x f row h = first-unique (highDistance x) 32 row (highRow x) h (high-first x f)
+
+-- ---- factors within a limit are finite
+pub bounded-finite : (limit : ℕ) (x : List Float) → Bounded 16 limit x → Finite x
+bounded-finite limit x h n k = within-finite (getD x n nan) limit 1 (h n k)
 
 -- ---- the rows are rows, whatever the factors
 pub low-inside : (x : List Float) → lowRow x < 32

@@ -6,8 +6,8 @@ use native.Mathlib.Omega.{arith}
 use lib.ListN.{getD}
 use lib.Ieee.{Float, nan, binary32, sub}
 use Rattle.float_laws.specs.Scan.{leastTo}
-use Rattle.float_laws.proofs.Scan.{least-under}
-use Rattle.float_laws.proofs.Alike.{sum-alike, least-alike}
+use Rattle.float_laws.proofs.Scan.{least-under, least-same}
+use Rattle.float_laws.proofs.Alike.{sum-alike}
 use Rattle.list_laws.specs.ListOf.{listOf}
 use Rattle.list_laws.proofs.ListOf.{getD-listOf, same-listOf}
 use Rattle.sns_tables.specs.Codebooks.{lfcbRows, hfcbRows, codeAt}
@@ -31,7 +31,7 @@ module _ (g : ℕ → Float) (rows : List (List Float)) where
   same-row : (cb : List (List Float)) (d : List Float) (r : ℕ) → cb ≡ byPlace rows → d ≡ listOf 32 (λ row. distance g (turnedAt cb row))
       → r ≡ leastTo (λ i. getD d i nan) 31 → r ≡ leastTo (λ row. distance g (codeAt rows row)) 31
   same-row cb d r e p q =
-      q ∙ least-alike _ _ 31 (λ i l. ap (λ (t : List Float). getD t i nan) p ∙ getD-listOf 32 _ nan i (upTo31 i l) ∙ rw e (same-distance i (upTo31 i l)))
+      q ∙ least-same _ _ 31 (λ i l. ap (λ (t : List Float). getD t i nan) p ∙ getD-listOf 32 _ nan i (upTo31 i l) ∙ rw e (same-distance i (upTo31 i l)))
 
 module _ (x : List Float) (cb : List (List Float)) (d : List Float) (r : ℕ) where
   pub low-row : cb ≡ byPlace lfcbRows → d ≡ listOf 32 (λ row. distance (half x 0) (turnedAt cb row)) → r ≡ leastTo (λ i. getD d i nan) 31 → r ≡ lowRow x

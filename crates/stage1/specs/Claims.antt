@@ -8,17 +8,13 @@ use lib.ListN.{getD}
 use lib.Ieee.{Float, nan, isNan, binary32, sub}
 use Rattle.float_laws.specs.Decimal.{plus, minus}
 use Rattle.float_laws.specs.Kind.{finite}
-use Rattle.float_laws.specs.Size.{Within}
+use Rattle.float_laws.specs.Bounded.{Bounded}
 use Rattle.float_laws.specs.Least.{FirstLeast}
 use Rattle.stage1.specs.Stage1.{lowDistance, highDistance, lowRow, highRow, codes, residual}
 
 -- sixteen finite factors
 abbrev pub Finite : List Float → Type 0
 Finite x = (n : ℕ) → n < 16 → T (finite (getD x n nan))
-
--- sixteen factors within a limit
-abbrev pub Limited : ℕ → List Float → Type 0
-Limited limit x = (n : ℕ) → n < 16 → Within (getD x n nan) limit 1
 
 -- no compared distance is NaN, however large the factors are
 abbrev pub No-nan : Type 0
@@ -40,7 +36,7 @@ High-only = (x : List Float) → Finite x → (row : ℕ) → FirstLeast (highDi
 
 -- factors within a limit leave residuals within the limit and 5, for any limit that leaves room for that in an f32's digits
 abbrev pub Residual-within : Type 0
-Residual-within = (limit : ℕ) → limit + 5 ≤ 2 ^ 24 → (x : List Float) → Limited limit x → (n : ℕ) → n < 16 → Within (getD (residual x) n nan) (limit + 5) 1
+Residual-within = (limit : ℕ) → limit + 5 ≤ 2 ^ 24 → (x : List Float) → Bounded 16 limit x → Bounded 16 (limit + 5) (residual x)
 
 -- residual = factor minus code, place by place
 abbrev pub Residual-is : Type 0
