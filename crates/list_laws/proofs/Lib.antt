@@ -4,3 +4,4 @@ pub mod Fill
 pub mod InPlace
 pub mod Prefix
 pub mod Range
+pub mod Part
