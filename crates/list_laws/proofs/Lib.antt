@@ -6,3 +6,4 @@ pub mod Some
 pub mod Full
 pub mod Prefix
 pub mod Range
+pub mod Part

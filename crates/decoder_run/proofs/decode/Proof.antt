@@ -1,0 +1,67 @@
+-- The inputs are accepted, so their pulses are of their shape.
+use Rattle.synthesis.specs.Synthesis.{Accepted}
+use Rattle.synthesis.proofs.Claims.{accepted}
+use mathlib.Core.Path.{sym, subst}
+use borrow.Author.Needs.{needs}
+use Rattle.decoder_run.proofs.decode.Statement.{statement}
+use Rattle.decoder_run.proofs.decode.Tie as tie
+
+mpvq-offsets-requires : tie.Need-mpvq-offsets-requires
+mpvq-offsets-requires c κs = search needs
+
+lfcb-requires : tie.Need-lfcb-requires
+lfcb-requires c κs = search needs
+
+hfcb-requires : tie.Need-hfcb-requires
+hfcb-requires c κs = search needs
+
+d-by-columns-requires : tie.Need-d-by-columns-requires
+d-by-columns-requires c κs = search needs
+
+roots-requires : tie.Need-roots-requires
+roots-requires c κs = search needs
+
+pulses-requires : tie.Need-pulses-requires
+pulses-requires c κs = search needs
+
+factors-requires : tie.Need-factors-requires
+factors-requires c κs =
+    let y = c .before .before .before .before .before in
+    let r = y .before .before in
+    let a = r .before .before .before .before .before in
+    let i = a .args in (
+      (r .before .before .before .lfcb .ensures, r .before .before .hfcb .ensures, r .before .d-by-columns .ensures, r .roots .ensures),
+      subst (Accepted (i .low) (i .high) (i .shape) (i .gain)) (sym (y .pulses .ensures)) (accepted _ _ _ _ _ _ _ _ (a .pre)),
+    )
+
+slice-aggregate-write-all : tie.Need-slice-aggregate-write-all
+slice-aggregate-write-all c = search needs
+
+write-all-requires : tie.Need-write-all-requires
+write-all-requires c κs = search needs
+
+slice-aggregate-floats : tie.Need-slice-aggregate-floats
+slice-aggregate-floats c = search needs
+
+floats-requires : tie.Need-floats-requires
+floats-requires c κs = search needs
+
+returns : tie.Need-returns
+returns c = search needs
+
+pub decode-spec : {M : Type 1} → statement M
+decode-spec =
+    tie.close
+    (tie.spec
+    mpvq-offsets-requires
+    lfcb-requires
+    hfcb-requires
+    d-by-columns-requires
+    roots-requires
+    pulses-requires
+    factors-requires
+    slice-aggregate-write-all
+    write-all-requires
+    slice-aggregate-floats
+    floats-requires
+    returns)
