@@ -6,7 +6,7 @@ use Prim.Native.Nat.{ℕ, zero, suc, _+_, _*_, _<_}
 use native.Mathlib.Nat.{le-of-suc-le-suc, not-suc-le-zero}
 use native.Mathlib.Numerals.{add-one}
 use lib.Dec.{T, ltb, nltb→le}
-use lib.IntN.{ℤ}
+use lib.IntN.{ℤ, pos}
 use lib.ListN.{length, getD, drop}
 use lib.Seq.{drop-cons}
 use lib.Ieee.{Float, nan, inf, fin, up, down, lt, neg}
@@ -82,3 +82,8 @@ taken-within m e xs = from xs 0
     from [] place h i l = absurd (not-suc-le-zero l)
     from (x ∷ xs) place h zero l = let p = parted (fin false m e) x place (finite x) (beyond (fin false m e) x) _ refl refl h in near m e x (p .0) (p .1)
     from (x ∷ xs) place h (suc i) l = from xs (suc place) (parted (fin false m e) x place (finite x) (beyond (fin false m e) x) _ refl refl h .2) i (le-of-suc-le-suc l)
+
+-- each factor of a row that is taken, by the written limit
+pub within-limit : (xs : List Float) → firstRefused factorLimit xs ≡ Taken → (i : ℕ) → i < length xs → Within (getD xs i nan) 64 1
+unfolding factorLimit plus
+within-limit xs h i l = taken-within 1 (pos 6) xs h i l

@@ -15,7 +15,7 @@ use Rattle.float_laws.proofs.Logic.{or-split}
 use Rattle.list_laws.specs.ListOf.{listOf}
 use Rattle.list_laws.proofs.ListOf.{length-listOf, getD-listOf, same-listOf}
 use Rattle.list_laws.proofs.Range.{Holds, holds-none, holds-join, holds-below, holds-up}
-use Rattle.interpolation.specs.Bands.{factorAt, between, beyond, bandOf, halvedSum, narrowOf, countOk, bandsOf}
+use Rattle.interpolation.specs.Bands.{factorAt, between, past, bandOf, halvedSum, narrowOf, countOk, interpolated}
 
 -- ---- 64 bands
 band-between : (f : List Float) (n j b : ℕ) → n < 15 → j < 4 → b ≡ 4 * n + 2 + j → between f n j ≡ bandOf f b
@@ -51,11 +51,11 @@ next-four f ys n l h =
     (holds-up nan (bandOf f) 64 _ (4 * n + 2) (between f n 0) 0 (4 * n + 2) (4 * n + 3) refl (omega arith) (omega arith) (band-between f n 0 (4 * n + 2) l (lit< tt) (omega arith)) h)))
 
 -- bands 62 and 63
-pub last-two : (f ys : List Float) → Holds nan (bandOf f) 64 ys 0 62 → Holds nan (bandOf f) 64 (set (set ys 62 (beyond f 0)) 63 (beyond f 1)) 0 64
+pub last-two : (f ys : List Float) → Holds nan (bandOf f) 64 ys 0 62 → Holds nan (bandOf f) 64 (set (set ys 62 (past f 0)) 63 (past f 1)) 0 64
 unfolding bandOf
 last-two f ys h =
-    holds-up nan (bandOf f) 64 _ 63 (beyond f 1) 0 63 64 refl refl (lit< tt) refl
-    (holds-up nan (bandOf f) 64 _ 62 (beyond f 0) 0 62 63 refl refl (lit< tt) refl h)
+    holds-up nan (bandOf f) 64 _ 63 (past f 1) 0 63 64 refl refl (lit< tt) refl
+    (holds-up nan (bandOf f) 64 _ 62 (past f 0) 0 62 63 refl refl (lit< tt) refl h)
 
 -- ---- 60 bands
 pub narrow-moved : (old : ℕ → Float) (i : ℕ) → 4 ≤ i → old (i + 4) ≡ narrowOf old i
@@ -101,12 +101,12 @@ count-top count h =
     ]
 
 pub narrow : (f old reduced out : List Float) (count : ℕ) → count ≡ 60 → old ≡ listOf 64 (bandOf f) → take 60 reduced ≡ listOf 60 (narrowOf (λ i. getD old i nan)) → out ≡ take count reduced
-    → out ≡ bandsOf f count
-unfolding bandsOf
+    → out ≡ interpolated f count
+unfolding interpolated
 narrow f old reduced out count e p q r = r ∙ rw e (q ∙ rw p (old-bands f))
 
-pub wide : (f old out : List Float) (count : ℕ) → T (countOk count) → (count ≡ 60 → ⊥) → old ≡ listOf 64 (bandOf f) → out ≡ take count old → out ≡ bandsOf f count
-unfolding bandsOf
+pub wide : (f old out : List Float) (count : ℕ) → T (countOk count) → (count ≡ 60 → ⊥) → old ≡ listOf 64 (bandOf f) → out ≡ take count old → out ≡ interpolated f count
+unfolding interpolated
 wide f old out count h d p r =
     let e : count ≡ 64 = by (or-split (eqb count 60) (eqb count 64) h) in
     r ∙ rw (e, p) (take-all 64 (listOf 64 (bandOf f)) (le-of-eq (length-listOf 64 (bandOf f))))

@@ -29,14 +29,14 @@ abbrev pub between : List Float → ℕ → ℕ → Float
 between factors n j = add binary32 (factorAt factors n) (mul binary32 (eighths (2 * j + 1)) (sub binary32 (factorAt factors (n + 1)) (factorAt factors n)))
 
 -- bands 62 and 63 are factor 15 plus 1/8 and 3/8 of (factor 15 minus factor 14): the one of these at place j
-abbrev pub beyond : List Float → ℕ → Float
-beyond factors j = add binary32 (factorAt factors 15) (mul binary32 (eighths (2 * j + 1)) (sub binary32 (factorAt factors 15) (factorAt factors 14)))
+abbrev pub past : List Float → ℕ → Float
+past factors j = add binary32 (factorAt factors 15) (mul binary32 (eighths (2 * j + 1)) (sub binary32 (factorAt factors 15) (factorAt factors 14)))
 
 -- band b of 64: bands 0 and 1 equal factor 0, then four bands each for n from 0 to 14, then bands 62 and 63
 unfoldable pub bandOf : List Float → ℕ → Float
 bandOf factors zero = factorAt factors 0
 bandOf factors (suc zero) = factorAt factors 0
-bandOf factors (suc (suc i)) = cond (ltb (i / 4) 15) (between factors (i / 4) (i % 4)) (beyond factors (i % 4))
+bandOf factors (suc (suc i)) = cond (ltb (i / 4) 15) (between factors (i / 4) (i % 4)) (past factors (i % 4))
 
 -- the halved sum (first plus second, then divided by 2)
 abbrev pub halvedSum : Float → Float → Float
@@ -47,5 +47,5 @@ unfoldable pub narrowOf : (ℕ → Float) → ℕ → Float
 narrowOf old i = cond (ltb i 4) (halvedSum (old (2 * i)) (old (2 * i + 1))) (old (i + 4))
 
 -- all bands, 60 or 64 of them
-unfoldable pub bandsOf : List Float → ℕ → List Float
-bandsOf factors count = cond (eqb count 60) (listOf 60 (narrowOf (bandOf factors))) (listOf 64 (bandOf factors))
+unfoldable pub interpolated : List Float → ℕ → List Float
+interpolated factors count = cond (eqb count 60) (listOf 60 (narrowOf (bandOf factors))) (listOf 64 (bandOf factors))

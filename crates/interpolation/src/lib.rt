@@ -6,7 +6,7 @@ ghost use lib.Dec.{T};
 ghost use lib.Ieee.{nan};
 ghost use lib.ListN.{length, getD, take};
 ghost use Rattle.list_laws.specs.ListOf.{listOf};
-ghost use Rattle.interpolation.specs.Bands.{bandLimit, countOk, bandOf, narrowOf, bandsOf};
+ghost use Rattle.interpolation.specs.Bands.{bandLimit, countOk, bandOf, narrowOf, interpolated};
 
 // The limit of a factor that is interpolated, on both sides.
 pub fn band_limit() -> f32
@@ -73,7 +73,7 @@ fn copy(from: [f32; 64], bands: &mut [f32])
 pub fn interpolate(factors: &[f32; 16], bands: &mut [f32])
     requires { ⌜ length (now factors) ≡ 16 ⌝ }
     requires { ⌜ T (countOk (length (now bands))) ⌝ }
-    ensures { λ _. ⌜ now (bands .exit) ≡ bandsOf (now (factors .entry)) (length (now (bands .entry))) ⌝ }
+    ensures { λ _. ⌜ now (bands .exit) ≡ interpolated (now (factors .entry)) (length (now (bands .entry))) ⌝ }
 {
     let old = spread(factors);
     if bands.len() == 60 {
