@@ -7,13 +7,15 @@ use native.Mathlib.Omega.{arith}
 use lib.Dec.{T, ltb, ltb→lt}
 use lib.ListN.{length, getD, List·getD-append}
 use lib.Seq.{getD-append-add}
+use lib.Ieee.{Float}
+use Rattle.float_laws.proofs.Scan.{least-under}
 use Rattle.list_laws.specs.Every.{both, everyBelow}
 use Rattle.list_laws.proofs.Every.{both-left, both-right, at-below}
 use Rattle.list_laws.specs.ListOf.{listOf}
 use Rattle.list_laws.proofs.ListOf.{length-listOf, getD-listOf}
 use Rattle.sns_tables.specs.Gains.{gainRows, gainsOf}
 use Rattle.candidates.specs.declared.Choice.{Choice}
-use Rattle.candidates.specs.Scan.{gainsScanned, scannedFrom, scanned, choices, choiceAt}
+use Rattle.candidates.specs.Scan.{gainsScanned, scannedFrom, scanned, choices, choiceAt, distortionAt, winnerOf}
 
 -- past the end
 nothing : Choice
@@ -66,3 +68,19 @@ pub choice-gain : (i : ℕ) → i < choices → choiceAt i .gain < gainsOf (choi
 unfolding sound
 choice-gain i h =
     ltb→lt (choiceAt i .gain) (gainsOf (choiceAt i .shape)) (both-right (ltb (choiceAt i .shape) 4) (ltb (choiceAt i .gain) (gainsOf (choiceAt i .shape))) (at-below choices sound all-sound i h))
+
+-- and it is below 8, whatever the shape
+small : ℕ → Bool
+small i = ltb (choiceAt i .gain) 8
+
+all-small : T (everyBelow choices small)
+unfolding small scanned scannedFrom gainsScanned listOf
+all-small = tt
+
+pub choice-small : (i : ℕ) → i < choices → choiceAt i .gain < 8
+unfolding small
+choice-small i h = ltb→lt (choiceAt i .gain) 8 (at-below choices small all-small i h)
+
+pub winner-under : (t : List Float) (q : List (List Float)) → winnerOf t q < choices
+unfolding winnerOf
+winner-under t q = omega (arith, choices-are, least-under (distortionAt t q) (choices - 1))

@@ -1,0 +1,4 @@
+pub mod Cases
+pub mod Winner
+pub mod Steps
+pub mod Claims

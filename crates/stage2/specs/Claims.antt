@@ -1,0 +1,45 @@
+-- What is shown of stage 2. Definitions only; the proofs are in proofs/Claims.
+use mathlib.Core.Path.{_≡_}
+use mathlib.Core.List.{List}
+use Prim.Native.Nat.{ℕ, _≤_, _<_}
+use lib.Dec.{T}
+use lib.ListN.{getD}
+use lib.Ieee.{Float, nan}
+use Rattle.float_laws.specs.Bounded.{Bounded}
+use Rattle.float_laws.specs.Kind.{finite}
+use Rattle.float_laws.specs.Least.{FirstLeast}
+use Rattle.stage2_target.specs.Target.{targetOf, absolutesOf}
+use Rattle.shape_search.specs.Claims.{Finite}
+use Rattle.candidates.specs.Scan.{choices, choiceAt, distortionAt}
+use Rattle.candidates.specs.Claims.{Comparable}
+use Rattle.stage2.specs.Numbers.{unpackedOf}
+use Rattle.stage2.specs.Stage2.{candidatesOf, choiceOf, signedFor, stage2Of}
+
+-- the chosen shape and gain are those of the first of the scanned candidates with the least computed distortion, for every finite target
+pub record FirstChoice (t : List Float) : Type 0 where
+  pub choice : ℕ
+  pub is : choiceOf t ≡ choiceAt choice
+  pub first : FirstLeast (distortionAt t (candidatesOf t)) choices choice
+
+abbrev pub ChoiceFirst : Type 0
+ChoiceFirst = (t : List Float) → ((n : ℕ) → n < 16 → T (finite (getD t n nan))) → FirstChoice t
+
+-- and any choice that is first so is the one chosen
+abbrev pub ChoiceOnly : Type 0
+ChoiceOnly = (t : List Float) → ((n : ℕ) → n < 16 → T (finite (getD t n nan))) → (i : ℕ) → FirstLeast (distortionAt t (candidatesOf t)) choices i → choiceAt i ≡ choiceOf t
+
+-- the signs and indices, unpacked, give the winner's very pulses
+abbrev pub Unpacks : Type 0
+Unpacks =
+    (residual code : List Float) → let r = stage2Of residual code in
+    unpackedOf (r .«shape_j») (r .numbers) ≡ signedFor (targetOf residual) (r .«shape_j»)
+
+-- the joint index is at most 33460055 for shapes 0 and 1, and 16708095 for shapes 2 and 3
+abbrev pub JointTops : Type 0
+JointTops =
+    (residual code : List Float) → let r = stage2Of residual code in
+    (r .«shape_j» < 2 → r .«index_joint_j» ≤ 33460055) × (2 ≤ r .«shape_j» → r .«index_joint_j» ≤ 16708095)
+
+-- with residuals of at most 517 (factors of at most 512) no compared value is NaN: the searches compare finite numbers, and no distortion is NaN
+abbrev pub NothingNan : Type 0
+NothingNan = (residual : List Float) → Bounded 16 517 residual → let t = targetOf residual in Finite (absolutesOf t) × Comparable t (candidatesOf t)

@@ -1,0 +1,3 @@
+pub mod Numbers
+pub mod Stage2
+pub mod Claims

@@ -1,0 +1,59 @@
+-- The numbers of a shape's signed pulses, and the joint index. Definitions only.
+use mathlib.Core.Path.{_≡_}
+use mathlib.Core.List.{List, _++_}
+use Prim.Native.Nat.{ℕ, zero, suc, _+_, _*_, _%_, _≤_, _<_}
+use lib.IntN.{ℤ, pos}
+use lib.ListN.{length, take, drop, replicate}
+use Rattle.shapes.specs.Sets.{setA, setB}
+use Rattle.numbering.specs.Numbering.{pulsesOf, indexOf, leadSign, vectorAt}
+use Rattle.stage2.specs.declared.Numbers.{Numbers}
+
+-- the places of set A: the first ten in shapes 0 and 1, all sixteen in shapes 2 and 3
+unfoldable pub partA : ℕ → List ℤ → List ℤ
+partA shape v = take (setA shape .dimension) v
+
+-- the places of set B: 10 to 15
+unfoldable pub partB : List ℤ → List ℤ
+partB v = take (setB .dimension) (drop 10 v)
+
+-- B's index and lead sign are zero in shapes 1 to 3
+unfoldable pub indexB : ℕ → List ℤ → ℕ
+indexB zero v = indexOf (partB v)
+indexB (suc s) v = 0
+
+unfoldable pub signB : ℕ → List ℤ → ℕ
+signB zero v = leadSign (partB v)
+signB (suc s) v = 0
+
+unfoldable pub numbersOf : ℕ → List ℤ → Numbers
+numbersOf shape v = record { idxa = indexOf (partA shape v); «ls_inda» = leadSign (partA shape v); idxb = indexB shape v; «ls_indb» = signB shape v }
+
+-- Joint index: shape 0, (2·b + sign b + 2)·2390004 + a; shape 1, (gain mod 2)·2390004 + a; shape 2, a; shape 3, 15158272 + (gain mod 2) + 2·a.
+unfoldable pub jointOf : ℕ → ℕ → Numbers → ℕ
+jointOf zero gain n = (2 * n .idxb + n .«ls_indb» + 2) * 2390004 + n .idxa
+jointOf (suc zero) gain n = gain % 2 * 2390004 + n .idxa
+jointOf (suc (suc zero)) gain n = n .idxa
+jointOf (suc (suc (suc s))) gain n = 15158272 + gain % 2 + 2 * n .idxa
+
+-- sixteen places of which each set has few enough pulses to be numbered
+pub record Numberable (shape : ℕ) (v : List ℤ) : Type 0 where
+  pub places : length v ≡ 16
+  pub few : pulsesOf (partA shape v) ≤ 10
+  pub single : shape ≡ 0 → pulsesOf (partB v) ≤ 10
+
+-- numbers from which the joint index is made within an u32
+pub record Small (gain : ℕ) (n : Numbers) : Type 0 where
+  pub a : n .idxa < 15158272
+  pub b : n .idxb < 6
+  pub sign-b : n .«ls_indb» < 2
+  pub gain-number : gain < 8
+
+-- sixteen places of the two sets: set B has places in shape 0 alone, and shape 1 has no pulses there
+unfoldable pub bothSets : ℕ → List ℤ → List ℤ → List ℤ
+bothSets zero a b = a ++ b
+bothSets (suc zero) a b = a ++ replicate 6 (pos 0)
+bothSets (suc (suc s)) a b = a
+
+-- a shape's numbers, unpacked
+unfoldable pub unpackedOf : ℕ → Numbers → List ℤ
+unpackedOf shape n = bothSets shape (vectorAt (setA shape .dimension) (setA shape .pulses) (n .«ls_inda») (n .idxa)) (vectorAt (setB .dimension) (setB .pulses) (n .«ls_indb») (n .idxb))
