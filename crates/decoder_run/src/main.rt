@@ -137,7 +137,7 @@ fn decode(
     let offsets = tables::mpvq_offsets();
     let lfcb = tables::lfcb();
     let hfcb = tables::hfcb();
-    let d = tables::d_by_columns();
+    let d = sns_tables::by_columns::d_by_columns();
     let roots = roots::roots();
     let y = decoder_pulses::pulses(&offsets, shape, sign_a, index_a, sign_b, index_b);
     let factors = synthesis::factors(&lfcb, &hfcb, &d, &roots, low, high, shape, gain, &y);

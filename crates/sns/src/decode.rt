@@ -33,7 +33,7 @@ fn factors_of(f: Fields) -> [f32; 16]
     let y = pulses_of(f);
     let lfcb = tables::lfcb();
     let hfcb = tables::hfcb();
-    let d = tables::d_by_columns();
+    let d = sns_tables::by_columns::d_by_columns();
     let roots = roots::roots();
     synthesis::factors(
         &lfcb,

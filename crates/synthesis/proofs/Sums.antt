@@ -16,7 +16,9 @@ use Rattle.list_laws.proofs.Range.{Holds, holds-above, holds-below, holds-up}
 use Rattle.sns_tables.specs.Codebooks.{lfcbRows, hfcbRows, codeAt}
 use Rattle.sns_tables.specs.Rotation.{dColumns}
 use Rattle.sns_tables.proofs.Rotation.{column-entry}
-use Rattle.synthesis.specs.Synthesis.{squaresOf, scaleOf, codeOf, columnsTo, synthesised, floatsOf, factorOf, factorsOf}
+use Rattle.float_laws.specs.Running.{sumTo}
+use Rattle.sns_tables.specs.Codes.{codeOf}
+use Rattle.synthesis.specs.Synthesis.{squaresOf, scaleOf, columnsTo, synthesised, floatsOf, factorOf, factorsOf}
 
 -- the squares from k on: the one at k, and the others
 pub squares-at : (y : List ℤ) (k : ℕ) → k < length y → squaresOf (drop k y) ≡ natAbs (getD y k (pos 0)) * natAbs (getD y k (pos 0)) + squaresOf (drop (k + 1) y)
@@ -33,12 +35,12 @@ floats-are y l = sym (is-listOf 16 (λ k. ofInt binary32 (getD y k (pos 0))) (of
 
 -- the sum over columns
 pub columns-none : (x : List Float) (n : ℕ) → ofBits binary32 0 ≡ columnsTo x n 0
-unfolding columnsTo plus ofBits
+unfolding columnsTo sumTo
 columns-none x n = refl
 
 pub columns-more : (x : List Float) (n col : ℕ) (d : List (List Float)) (s : Float) → d ≡ dColumns → n < 16 → col < 16 → s ≡ columnsTo x n col
     → add binary32 s (mul binary32 (getD x col nan) (getD (getD d col []) n nan)) ≡ columnsTo x n (col + 1)
-unfolding columnsTo
+unfolding columnsTo sumTo
 columns-more x n col d s e h l p = rw (e, p, add-one, column-entry n col h l)
 
 -- a turn of the codes: place n of the low row, and of the high row

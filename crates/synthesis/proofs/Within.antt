@@ -11,7 +11,7 @@ use lib.Dec.{T, ltb, lit<, lit≤}
 use lib.IntN.{ℤ, pos, natAbs}
 use lib.ListN.{getD, take, drop, take-append-drop}
 use lib.Seq.{take-suc, take-all}
-use lib.Ieee.{Float, nan, binary32, round, ofInt, mul}
+use lib.Ieee.{Float, nan, binary32, round, ofInt, mul, ofBits}
 use Rattle.float_laws.specs.Decimal.{plus, minus}
 use Rattle.float_laws.specs.Size.{Within, withinb, exact}
 use Rattle.float_laws.proofs.Size.{within-test, within-up, mul-within, add-within}
@@ -28,7 +28,9 @@ use Rattle.shapes.specs.Sets.{setA}
 use Rattle.numbering.specs.Numbering.{pulsesOf}
 use Rattle.roots.proofs.Unit.{root-at-least}
 use Rattle.decoder_pulses.specs.Pulses.{restPulses}
-use Rattle.synthesis.specs.Synthesis.{Accepted, Sixteen, squaresOf, lengthOf, scaleOf, codeOf, columnsTo, floatsOf, factorOf}
+use Rattle.float_laws.specs.Running.{sumTo}
+use Rattle.sns_tables.specs.Codes.{codeOf}
+use Rattle.synthesis.specs.Synthesis.{Accepted, Sixteen, squaresOf, lengthOf, scaleOf, columnsTo, floatsOf, factorOf}
 use Rattle.synthesis.proofs.Sums.{floats-are}
 use Rattle.synthesis.proofs.Squares.{pulses-append, pulses-under, shape-pulses, shape-sixteen}
 
@@ -96,7 +98,7 @@ module _ (y : List ℤ) (s : Sixteen y) (few : pulsesOf y ≤ 11) (n : ℕ) (l :
       even k = omega arith
 
   columns-within : (c : ℕ) → c ≤ 16 → Within (columnsTo (floatsOf y) n c) (361 * pulsesOf (take c y)) 1024
-  unfolding columnsTo plus pulsesOf
+  unfolding columnsTo sumTo pulsesOf ofBits
   columns-within zero h = lit≤ tt
   columns-within (suc c) h =
       let p = pulsesOf (take c y) in

@@ -8,8 +8,10 @@ use lib.ListN.{length, getD}
 use lib.Ieee.{Float, nan, binary32, ofInt, add, mul, div}
 use mathlib.Core.Bool.{cond}
 use Rattle.float_laws.specs.Decimal.{plus}
+use Rattle.float_laws.specs.Running.{sumTo}
 use Rattle.list_laws.specs.ListOf.{listOf}
 use Rattle.sns_tables.specs.Codebooks.{lfcbRows, hfcbRows, codeAt}
+use Rattle.sns_tables.specs.Codes.{codeOf}
 use Rattle.sns_tables.specs.Rotation.{dAt}
 use Rattle.sns_tables.specs.Gains.{gainsOf, gainAt}
 use Rattle.decoder_pulses.specs.Pulses.{Shaped}
@@ -43,14 +45,9 @@ abbrev pub scaleOf : ℕ → ℕ → List ℤ → Float
 scaleOf shape gain y = div binary32 (gainAt shape gain) (lengthOf y)
 
 -- ---- the factors
--- code n: the low row's for places 0 to 7, the high row's for 8 to 15
-abbrev pub codeOf : ℕ → ℕ → ℕ → Float
-codeOf low high n = cond (ltb n 8) (codeAt lfcbRows low n) (codeAt hfcbRows high (n - 8))
-
 -- the sum over columns, from 0.0, of x times D[n][column]: the first so many columns
 unfoldable pub columnsTo : List Float → ℕ → ℕ → Float
-columnsTo x n zero = plus 0 0
-columnsTo x n (suc column) = add binary32 (columnsTo x n column) (mul binary32 (getD x column nan) (dAt n column))
+columnsTo x n columns = sumTo (λ column. mul binary32 (getD x column nan) (dAt n column)) columns
 
 -- code n + g times the sum over columns
 abbrev pub synthesised : (ℕ → Float) → List Float → Float → ℕ → Float

@@ -10,7 +10,8 @@ ghost use Rattle.sns_tables.specs.Codebooks.{lfcbRows, hfcbRows};
 ghost use Rattle.sns_tables.specs.Rotation.{dColumns};
 ghost use Rattle.sns_tables.specs.Gains.{gainsOf, gainAt};
 ghost use Rattle.roots.specs.Root.{rootTable};
-ghost use Rattle.synthesis.specs.Synthesis.{Accepted, Sixteen, squaresOf, scaleOf, codeOf, columnsTo, synthesised, floatsOf, factorsOf};
+ghost use Rattle.sns_tables.specs.Codes.{codeOf};
+ghost use Rattle.synthesis.specs.Synthesis.{Accepted, Sixteen, squaresOf, scaleOf, columnsTo, synthesised, floatsOf, factorsOf};
 use sns_tables::spec_noise_shape_quant_tables as tables;
 
 // A pulse squared.

@@ -5,8 +5,8 @@ use native.Mathlib.Omega.{arith}
 use lib.Dec.{lit≤}
 use lib.Ieee.{nan}
 use Rattle.list_laws.proofs.Range.{Holds, holds-none, holds-all, holds-join}
+use Rattle.sns_tables.specs.Codes.{codeOf}
 use Rattle.synthesis.proofs.Sums.{codes-more}
-use Rattle.synthesis.specs.Synthesis.{codeOf}
 use borrow.Author.Needs.{needs}
 use Rattle.synthesis.proofs.codes.Statement.{statement}
 use Rattle.synthesis.proofs.codes.Tie as tie

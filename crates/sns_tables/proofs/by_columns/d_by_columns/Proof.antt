@@ -4,8 +4,8 @@ use lib.Ieee.{ofBits}
 use Rattle.float_laws.specs.Decimal.{plus, minus}
 use Rattle.list_laws.specs.ListOf.{listOf}
 use Rattle.sns_tables.specs.Rotation.{dRows, dColumns}
-use Rattle.sns_tables.proofs.spec_noise_shape_quant_tables.d_by_columns.Statement.{statement}
-use Rattle.sns_tables.proofs.spec_noise_shape_quant_tables.d_by_columns.Tie as tie
+use Rattle.sns_tables.proofs.by_columns.d_by_columns.Statement.{statement}
+use Rattle.sns_tables.proofs.by_columns.d_by_columns.Tie as tie
 
 returns : tie.Need-returns
 unfolding dRows dColumns listOf plus minus ofBits
