@@ -6,7 +6,7 @@ use Prim.Native.Nat.{ℕ}
 use lib.Dec.{eqb}
 use lib.ListN.{length}
 use lib.Ieee.{Float}
-use Rattle.interpolation.specs.Bands.{bandLimit, countOk, bandsOf}
+use Rattle.interpolation.specs.Bands.{bandLimit, countOk, interpolated}
 use Rattle.sns.specs.declared.Answer.{Answer}
 use Rattle.sns.specs.Answers.{Question, ask, answerOf, kept}
 use Rattle.sns.specs.Elements.{factorQuestions}
@@ -24,4 +24,4 @@ interpolateAnswer factors count len = answerOf (interpolateQuestions factors cou
 
 -- the whole result of a call, r, and what the bands hold at return, new, where they held old
 abbrev pub InterpolateSays : List Float → ℕ → List Float → Answer → List Float → Type 0
-InterpolateSays factors count old r new = (r ≡ interpolateAnswer factors count (length old)) × (new ≡ kept r (bandsOf factors count) old)
+InterpolateSays factors count old r new = (r ≡ interpolateAnswer factors count (length old)) × (new ≡ kept r (interpolated factors count) old)

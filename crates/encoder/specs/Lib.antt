@@ -1,0 +1,2 @@
+pub mod Quantized
+pub mod Claims
