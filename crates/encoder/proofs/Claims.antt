@@ -1,5 +1,5 @@
 -- The claims of specs/Claims.antt: stage 1's and stage 2's, put together. Assumes nothing.
-use Prim.Native.Nat.{ℕ, _+_, _^_, _≤_}
+use Prim.Native.Nat.{ℕ, _+_, _≤_}
 use native.Mathlib.Nat.{le-trans}
 use native.Mathlib.Omega.{arith}
 use mathlib.Core.List.{List}

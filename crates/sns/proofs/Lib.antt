@@ -1,6 +1,7 @@
 pub mod Answers
 pub mod Elements
 pub mod Accepted
+pub mod EncodeAnswers
 pub mod InterpolateAnswers
 pub mod Pairs
 pub mod UnpackAnswers

@@ -3,6 +3,7 @@ pub mod Elements
 pub mod CheckFactor
 pub mod Fields
 pub mod Decode
+pub mod Encode
 pub mod Interpolate
 pub mod Unpack
 pub mod Pack

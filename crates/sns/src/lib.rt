@@ -2,11 +2,13 @@
 // states its whole answer and every element of each lent buffer. Each call has a file of its own:
 //   check_factor   one factor against the limit
 //   decode         a frame's fields into sixteen factors
+//   encode         sixteen factors into a frame's fields, and sixteen synthesised factors
 //   interpolate    sixteen factors into 60 or 64 bands
 //   pack           a pulse vector into its index and lead sign
 //   unpack         an index and a lead sign into the pulse vector
 pub mod check_factor;
 pub mod decode;
+pub mod encode;
 pub mod fields;
 pub mod interpolate;
 pub mod pack;

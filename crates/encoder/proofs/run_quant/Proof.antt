@@ -1,5 +1,4 @@
 -- The two stages, one on what the other leaves.
-use mathlib.Core.Path.{_≡_, refl}
 use borrow.Author.Needs.{needs}
 use Rattle.encoder.specs.Quantized.{quantizedOf}
 use Rattle.encoder.proofs.run_quant.Statement.{statement}
