@@ -39,6 +39,29 @@ unfolding answerOf
 done number place false qs e = (refl, e)
 done number place true qs e = absurd (no-not-done number place e)
 
+-- two lists of questions, one after the other: the second is asked where the first is done
+andThen : Answer → Answer → Answer
+andThen Done rest = rest
+andThen (No number place) rest = No number place
+
+appended : (qs rest : List Question) → answerOf (qs ++ rest) ≡ andThen (answerOf qs) (answerOf rest)
+unfolding answerOf andThen
+appended [] rest = refl
+appended (q ∷ qs) rest = by (q .given) (appended qs rest)
+  where
+    by : (b : Bool) → answerOf (qs ++ rest) ≡ andThen (answerOf qs) (answerOf rest)
+        → cond b (No (q .number) (q .place)) (answerOf (qs ++ rest)) ≡ andThen (cond b (No (q .number) (q .place)) (answerOf qs)) (answerOf rest)
+    by true e = refl
+    by false e = e
+
+pub first-refuses : {number place : ℕ} (qs rest : List Question) → No number place ≡ answerOf qs → No number place ≡ answerOf (qs ++ rest)
+unfolding andThen
+first-refuses qs rest e = ap (λ a. andThen a (answerOf rest)) e ∙ sym (appended qs rest)
+
+pub first-done : {r : Answer} (qs rest : List Question) → Done ≡ answerOf qs → r ≡ answerOf rest → r ≡ answerOf (qs ++ rest)
+unfolding andThen
+first-done qs rest e f = f ∙ ap (λ a. andThen a (answerOf rest)) e ∙ sym (appended qs rest)
+
 -- refused: the first question that is given
 
 passed-over : (b : Bool) (refused other : Answer) → T (not b) → cond b refused other ≡ other

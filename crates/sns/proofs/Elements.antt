@@ -2,8 +2,11 @@
 use mathlib.Core.Path.{_≡_, refl, sym, ap, _∙_}
 use mathlib.Core.Bool.{Bool, true, false, not, cond}
 use mathlib.Core.List.{List, [], _∷_}
-use Prim.Native.Nat.{ℕ, suc}
-use lib.Ieee.{Float}
+use Prim.Native.Nat.{ℕ, suc, _+_, _<_}
+use native.Mathlib.Numerals.{add-one}
+use lib.ListN.{length, getD, drop}
+use lib.Seq.{drop-cons}
+use lib.Ieee.{Float, nan}
 use Rattle.float_laws.specs.Kind.{finite}
 use Rattle.factor.specs.declared.Checked.the-variants as checked
 use Rattle.factor.specs.declared.Scanned.{Scanned}
@@ -12,7 +15,7 @@ use Rattle.factor.specs.Check.{beyond, numberOf, unlessTaken, firstFrom, firstR
 use Rattle.sns.specs.declared.Answer.{Answer}
 use Rattle.sns.specs.declared.Answer.the-variants.{Done, No}
 use Rattle.sns.specs.Answers.{answerOf}
-use Rattle.sns.specs.Elements.{factorQuestions}
+use Rattle.sns.specs.Elements.{factorQuestions, valueQuestions}
 
 -- a scan's result as an answer
 scanned : Scanned → Answer
@@ -38,3 +41,9 @@ refused-factor limit xs number place e = ap scanned e ∙ sym (factors-from limi
 pub factors-taken : (limit : Float) (xs : List Float) → Taken ≡ firstRefused limit xs → Done ≡ answerOf (factorQuestions limit 0 xs)
 unfolding scanned
 factors-taken limit xs e = ap scanned e ∙ sym (factors-from limit 0 xs)
+
+-- the values from i on start with the value at i
+pub value-at : (xs : List Float) (i : ℕ) (f : Bool) → i < length xs → f ≡ finite (getD xs i nan)
+    → answerOf (valueQuestions i (drop i xs)) ≡ cond (not f) (No 12 i) (answerOf (valueQuestions (i + 1) (drop (i + 1) xs)))
+unfolding valueQuestions answerOf
+value-at xs i f h e = rw (drop-cons xs i nan h, add-one, e)

@@ -2,6 +2,7 @@ pub mod Answers
 pub mod Elements
 pub mod Accepted
 pub mod InterpolateAnswers
+pub mod ShapeAnswers
 pub mod Pairs
 pub mod UnpackAnswers
 pub mod PackAnswers

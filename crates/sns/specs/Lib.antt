@@ -4,6 +4,7 @@ pub mod CheckFactor
 pub mod Fields
 pub mod Decode
 pub mod Interpolate
+pub mod Shape
 pub mod Unpack
 pub mod Pack
 pub mod Claims
