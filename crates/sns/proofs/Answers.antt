@@ -10,7 +10,7 @@ use Rattle.list_laws.proofs.Every.{both-left, both-right}
 use Rattle.sns.specs.declared.Answer.{Answer}
 use Rattle.sns.specs.declared.Answer.the-variants.{Done, No}
 use Rattle.sns.specs.Answers.{Question, ask, answerOf, numberOf, placeOf}
-use Rattle.sns.specs.Claims.{FirstGiven, RefusedExactly}
+use Rattle.sns.specs.Claims.{FirstGiven, RefusedExactly, DoneExactly}
 
 pub none-left : Done ≡ answerOf []
 unfolding answerOf
@@ -62,6 +62,14 @@ pub first-done : {r : Answer} (qs rest : List Question) → Done ≡ answerOf qs
 unfolding andThen
 first-done qs rest e f = f ∙ ap (λ a. andThen a (answerOf rest)) e ∙ sym (appended qs rest)
 
+pub both-done : (qs rest : List Question) → answerOf (qs ++ rest) ≡ Done → (answerOf qs ≡ Done) × (answerOf rest ≡ Done)
+unfolding andThen
+both-done qs rest e = by (answerOf qs) (sym (appended qs rest) ∙ e)
+  where
+    by : (a : Answer) → andThen a (answerOf rest) ≡ Done → (a ≡ Done) × (answerOf rest ≡ Done)
+    by Done h = (refl, h)
+    by (No number place) h = absurd (no-not-done number place h)
+
 -- refused: the first question that is given
 
 passed-over : (b : Bool) (refused other : Answer) → T (not b) → cond b refused other ≡ other
@@ -112,3 +120,21 @@ refused-exactly qs number place = (there, first number place qs)
         ap answerOf (f .split)
         ∙ skipped (f .before) (ask number place true ∷ f .after) (f .none-before)
         ∙ sym (given number place true (f .after) refl)
+
+not-yes : (b : Bool) → T (not b) → b ≡ false
+not-yes true t = absurd t
+not-yes false t = refl
+
+-- done: no question is given
+pub done-exactly : DoneExactly
+done-exactly qs = (there qs, back qs)
+  where
+    there : (qs : List Question) → T (every (λ (q : Question). not (q .given)) qs) → answerOf qs ≡ Done
+    there [] t = sym none-left
+    there (q ∷ qs) t =
+        let rest = every (λ (p : Question). not (p .given)) qs in
+        sym (not-given (q .number) (q .place) (q .given) qs (not-yes (q .given) (both-left (not (q .given)) rest t)) (sym (there qs (both-right (not (q .given)) rest t))))
+
+    back : (qs : List Question) → answerOf qs ≡ Done → T (every (λ (q : Question). not (q .given)) qs)
+    back [] e = tt
+    back (q ∷ qs) e = let d = done (q .number) (q .place) (q .given) qs e in more (q .given) _ (d .0) (back qs (d .1))

@@ -6,4 +6,6 @@ pub mod ShapeAnswers
 pub mod Pairs
 pub mod UnpackAnswers
 pub mod PackAnswers
+pub mod Taken
+pub mod Places
 pub mod Claims

@@ -31,7 +31,6 @@ below rate h = omega arith
 
 -- the part that is lent ends at the last limit
 ends : (lines : List Float) (end last : ℕ) → end ≡ last → answerOf (valueQuestions 0 (take (end - 0) (drop 0 lines))) ≡ answerOf (valueQuestions 0 (take last lines))
-unfolding drop
 ends lines end last e = rw (e, sub-zero last)
 
 lines-say : (c : tie.After-value-refusal2) → let a = c .before .before .before .before .before .before .before .before .before .before .before .before .before .before .args in
