@@ -10,7 +10,7 @@ use Rattle.list_laws.proofs.Every.{both-left, both-right}
 use Rattle.sns.specs.declared.Answer.{Answer}
 use Rattle.sns.specs.declared.Answer.the-variants.{Done, No}
 use Rattle.sns.specs.Answers.{Question, ask, answerOf, numberOf, placeOf}
-use Rattle.sns.specs.Claims.{FirstGiven, RefusedExactly}
+use Rattle.sns.specs.Claims.{FirstGiven, RefusedExactly, DoneExactly}
 
 pub none-left : Done ≡ answerOf []
 unfolding answerOf
@@ -38,6 +38,37 @@ pub done : (number place : ℕ) (b : Bool) (qs : List Question) → answerOf (as
 unfolding answerOf
 done number place false qs e = (refl, e)
 done number place true qs e = absurd (no-not-done number place e)
+
+-- two lists of questions, one after the other: the second is asked where the first is done
+andThen : Answer → Answer → Answer
+andThen Done rest = rest
+andThen (No number place) rest = No number place
+
+appended : (qs rest : List Question) → answerOf (qs ++ rest) ≡ andThen (answerOf qs) (answerOf rest)
+unfolding answerOf andThen
+appended [] rest = refl
+appended (q ∷ qs) rest = by (q .given) (appended qs rest)
+  where
+    by : (b : Bool) → answerOf (qs ++ rest) ≡ andThen (answerOf qs) (answerOf rest)
+        → cond b (No (q .number) (q .place)) (answerOf (qs ++ rest)) ≡ andThen (cond b (No (q .number) (q .place)) (answerOf qs)) (answerOf rest)
+    by true e = refl
+    by false e = e
+
+pub first-refuses : {number place : ℕ} (qs rest : List Question) → No number place ≡ answerOf qs → No number place ≡ answerOf (qs ++ rest)
+unfolding andThen
+first-refuses qs rest e = ap (λ a. andThen a (answerOf rest)) e ∙ sym (appended qs rest)
+
+pub first-done : {r : Answer} (qs rest : List Question) → Done ≡ answerOf qs → r ≡ answerOf rest → r ≡ answerOf (qs ++ rest)
+unfolding andThen
+first-done qs rest e f = f ∙ ap (λ a. andThen a (answerOf rest)) e ∙ sym (appended qs rest)
+
+pub both-done : (qs rest : List Question) → answerOf (qs ++ rest) ≡ Done → (answerOf qs ≡ Done) × (answerOf rest ≡ Done)
+unfolding andThen
+both-done qs rest e = by (answerOf qs) (sym (appended qs rest) ∙ e)
+  where
+    by : (a : Answer) → andThen a (answerOf rest) ≡ Done → (a ≡ Done) × (answerOf rest ≡ Done)
+    by Done h = (refl, h)
+    by (No number place) h = absurd (no-not-done number place h)
 
 -- refused: the first question that is given
 
@@ -89,3 +120,21 @@ refused-exactly qs number place = (there, first number place qs)
         ap answerOf (f .split)
         ∙ skipped (f .before) (ask number place true ∷ f .after) (f .none-before)
         ∙ sym (given number place true (f .after) refl)
+
+not-yes : (b : Bool) → T (not b) → b ≡ false
+not-yes true t = absurd t
+not-yes false t = refl
+
+-- done: no question is given
+pub done-exactly : DoneExactly
+done-exactly qs = (there qs, back qs)
+  where
+    there : (qs : List Question) → T (every (λ (q : Question). not (q .given)) qs) → answerOf qs ≡ Done
+    there [] t = sym none-left
+    there (q ∷ qs) t =
+        let rest = every (λ (p : Question). not (p .given)) qs in
+        sym (not-given (q .number) (q .place) (q .given) qs (not-yes (q .given) (both-left (not (q .given)) rest t)) (sym (there qs (both-right (not (q .given)) rest t))))
+
+    back : (qs : List Question) → answerOf qs ≡ Done → T (every (λ (q : Question). not (q .given)) qs)
+    back [] e = tt
+    back (q ∷ qs) e = let d = done (q .number) (q .place) (q .given) qs e in more (q .given) _ (d .0) (back qs (d .1))

@@ -1,9 +1,12 @@
 -- The claims of specs/Claims.antt: the statements are equations, and the numbering is one to one. Assumes nothing.
 use mathlib.Core.Path.{_≡_, refl, sym, ap, _∙_}
+use mathlib.Core.List.{List}
 use Prim.Native.Nat.{ℕ}
 use native.Mathlib.Omega.{arith}
 use borrow.Author.Tests.{not-false, leb-false, eqb-true}
 use lib.ListN.{length}
+use Rattle.interpolation.specs.Bands.{bandsOf}
+use Rattle.shaping.specs.Shaping.{shapedOf}
 use Rattle.numbering.specs.Numbering.{leadSign, indexOf, vectorAt}
 use Rattle.numbering.proofs.Claims.{claim}
 use Rattle.sns.specs.declared.Answer.{Answer}
@@ -11,18 +14,39 @@ use Rattle.sns.specs.declared.Answer.the-variants.{Done, No}
 use Rattle.sns.specs.declared.pack.Packed.{Packed}
 use Rattle.sns.specs.declared.pack.Packed.the-variants.{At}
 use Rattle.sns.specs.Answers.{answerOf, kept}
-use Rattle.sns.specs.Unpack.{unpackQuestions}
+use Rattle.sns.specs.Decode.{decodeAnswer, fieldPulses, fieldFactors}
+use Rattle.sns.specs.Interpolate.{interpolateAnswer}
+use Rattle.sns.specs.Shape.{shapeAnswer}
+use Rattle.sns.specs.Unpack.{unpackQuestions, unpackAnswer}
 use Rattle.sns.specs.Pack.{packQuestions, packedAs}
-use Rattle.sns.specs.Claims.{UnpackPinned, PackPinned, Taken, UnpackTakes, PackTakes, UnpackThenPack, PackThenUnpack}
+use Rattle.sns.specs.Claims.{CheckPinned, DecodePinned, PulsesPinned, InterpolatePinned, ShapePinned, UnpackPinned, PackPinned, Taken, UnpackTakes, PackTakes, UnpackThenPack, PackThenUnpack}
 use Rattle.sns.proofs.Answers.{done}
 use Rattle.sns.proofs.Pairs.{small}
 use Rattle.sns.proofs.UnpackAnswers as unpack
 use Rattle.sns.proofs.PackAnswers as pack
 
+-- ---- a call's answer is an equation, and so is what a buffer holds
+pinned : {A : Type 0} (answer : Answer) (filled old : List A) {r r′ : Answer} {new new′ : List A}
+    → (r ≡ answer) × (new ≡ kept r filled old) → (r′ ≡ answer) × (new′ ≡ kept r′ filled old) → (r ≡ r′) × (new ≡ new′)
+pinned answer filled old (p, q) (p′, q′) = let e = p ∙ sym p′ in (e, q ∙ ap (λ a. kept a filled old) e ∙ sym q′)
+
+pub check-pinned : CheckPinned
+check-pinned x r r′ s s′ = s .answer ∙ sym (s′ .answer)
+
+pub decode-pinned : DecodePinned
+decode-pinned f old r r′ new new′ = pinned (decodeAnswer f (length old)) (fieldFactors f) old
+
+pub pulses-pinned : PulsesPinned
+pulses-pinned f old r r′ new new′ = pinned (decodeAnswer f (length old)) (fieldPulses f) old
+
+pub interpolate-pinned : InterpolatePinned
+interpolate-pinned factors count old r r′ new new′ = pinned (interpolateAnswer factors count (length old)) (bandsOf factors count) old
+
+pub shape-pinned : ShapePinned
+shape-pinned rate ten count gains old r r′ new new′ = pinned (shapeAnswer rate ten count gains old) (shapedOf rate ten gains old) old
+
 pub unpack-pinned : UnpackPinned
-unpack-pinned n k s i old r r′ new new′ (p, q) (p′, q′) =
-    let e : r ≡ r′ = p ∙ sym p′ in
-    (e, q ∙ ap (λ a. kept a (vectorAt n k s i) old) e ∙ sym q′)
+unpack-pinned n k s i old r r′ new new′ = pinned (unpackAnswer n k s i (length old)) (vectorAt n k s i) old
 
 pub pack-pinned : PackPinned
 pack-pinned n k v r r′ p p′ = p ∙ sym p′

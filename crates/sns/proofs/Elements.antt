@@ -2,9 +2,17 @@
 use mathlib.Core.Path.{_≡_, refl, sym, ap, _∙_}
 use mathlib.Core.Bool.{Bool, true, false, not, cond}
 use mathlib.Core.List.{List, [], _∷_}
-use Prim.Native.Nat.{ℕ, suc}
-use lib.Ieee.{Float}
+use Prim.Native.Nat.{ℕ, suc, _+_, _<_}
+use native.Mathlib.Numerals.{add-one}
+use lib.ListN.{length, getD, drop}
+use lib.Seq.{drop-cons}
+use lib.Ieee.{Float, nan}
+use lib.Dec.{T}
+use borrow.Author.Tests.{not-true, not-false}
 use Rattle.float_laws.specs.Kind.{finite}
+use Rattle.float_laws.proofs.Logic.{yes, no}
+use Rattle.list_laws.specs.Every.{both, every}
+use Rattle.list_laws.proofs.Every.{both-left, both-right}
 use Rattle.factor.specs.declared.Checked.the-variants as checked
 use Rattle.factor.specs.declared.Scanned.{Scanned}
 use Rattle.factor.specs.declared.Scanned.the-variants.{Taken, Refused}
@@ -12,7 +20,8 @@ use Rattle.factor.specs.Check.{beyond, numberOf, unlessTaken, firstFrom, firstR
 use Rattle.sns.specs.declared.Answer.{Answer}
 use Rattle.sns.specs.declared.Answer.the-variants.{Done, No}
 use Rattle.sns.specs.Answers.{answerOf}
-use Rattle.sns.specs.Elements.{factorQuestions}
+use Rattle.sns.specs.Elements.{factorQuestions, valueQuestions}
+use Rattle.sns.proofs.Answers.{none-left, not-given, done}
 
 -- a scan's result as an answer
 scanned : Scanned → Answer
@@ -38,3 +47,51 @@ refused-factor limit xs number place e = ap scanned e ∙ sym (factors-from limi
 pub factors-taken : (limit : Float) (xs : List Float) → Taken ≡ firstRefused limit xs → Done ≡ answerOf (factorQuestions limit 0 xs)
 unfolding scanned
 factors-taken limit xs e = ap scanned e ∙ sym (factors-from limit 0 xs)
+
+-- the values from i on start with the value at i
+pub value-at : (xs : List Float) (i : ℕ) (f : Bool) → i < length xs → f ≡ finite (getD xs i nan)
+    → answerOf (valueQuestions i (drop i xs)) ≡ cond (not f) (No 12 i) (answerOf (valueQuestions (i + 1) (drop (i + 1) xs)))
+unfolding valueQuestions answerOf
+value-at xs i f h e = rw (drop-cons xs i nan h, add-one, e)
+
+-- ---- done exactly when every element is as it should be
+pair : (a b : Bool) → T a → T b → T (both a b)
+pair true b t u = u
+pair false b t u = t
+
+is : (b : Bool) → T b → b ≡ true
+is true t = refl
+is false t = absurd t
+
+pub values-done : (place : ℕ) (xs : List Float) → T (every finite xs) → Done ≡ answerOf (valueQuestions place xs)
+unfolding valueQuestions
+values-done place [] t = none-left
+values-done place (x ∷ xs) t =
+    not-given 12 place _ _ (ap not (is (finite x) (both-left (finite x) (every finite xs) t))) (values-done (suc place) xs (both-right (finite x) (every finite xs) t))
+
+pub done-values : (place : ℕ) (xs : List Float) → answerOf (valueQuestions place xs) ≡ Done → T (every finite xs)
+unfolding valueQuestions
+done-values place [] e = tt
+done-values place (x ∷ xs) e =
+    let d = done 12 place (not (finite x)) _ e in
+    pair (finite x) (every finite xs) (yes (not-false (finite x) (d .0))) (done-values (suc place) xs (d .1))
+
+module _ (limit : Float) where
+  ok : Float → Bool
+  ok x = both (finite x) (not (beyond limit x))
+
+  pub factors-done : (place : ℕ) (xs : List Float) → T (every (λ x. both (finite x) (not (beyond limit x))) xs) → Done ≡ answerOf (factorQuestions limit place xs)
+  unfolding factorQuestions ok
+  factors-done place [] t = none-left
+  factors-done place (x ∷ xs) t =
+      let h = both-left (ok x) (every ok xs) t in
+      not-given 7 place _ _ (ap not (is (finite x) (both-left (finite x) (not (beyond limit x)) h)))
+      (not-given 8 place _ _ (not-true _ (is _ (both-right (finite x) (not (beyond limit x)) h))) (factors-done (suc place) xs (both-right (ok x) (every ok xs) t)))
+
+  pub done-factors : (place : ℕ) (xs : List Float) → answerOf (factorQuestions limit place xs) ≡ Done → T (every (λ x. both (finite x) (not (beyond limit x))) xs)
+  unfolding factorQuestions ok
+  done-factors place [] e = tt
+  done-factors place (x ∷ xs) e =
+      let d = done 7 place (not (finite x)) _ e in
+      let h = done 8 place (beyond limit x) _ (d .1) in
+      pair (ok x) (every ok xs) (pair (finite x) (not (beyond limit x)) (yes (not-false (finite x) (d .0))) (no {b = beyond limit x} (h .0))) (done-factors (suc place) xs (h .1))

@@ -3,7 +3,10 @@ pub mod Elements
 pub mod Accepted
 pub mod EncodeAnswers
 pub mod InterpolateAnswers
+pub mod ShapeAnswers
 pub mod Pairs
 pub mod UnpackAnswers
 pub mod PackAnswers
+pub mod Taken
+pub mod Places
 pub mod Claims

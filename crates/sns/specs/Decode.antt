@@ -1,4 +1,4 @@
--- Decoding fields to sixteen factors. Definitions only.
+-- Decoding fields to sixteen factors, or to their sixteen pulses alone. Definitions only.
 use mathlib.Core.Path.{_≡_}
 use mathlib.Core.Bool.{not}
 use mathlib.Core.List.{List, _∷_}
@@ -14,7 +14,7 @@ use Rattle.sns.specs.declared.fields.Fields.{Fields}
 use Rattle.sns.specs.Answers.{Question, ask, answerOf, kept}
 use Rattle.sns.specs.Fields.{fieldQuestions}
 
--- 9: a lent buffer has the wrong length (factors 16). Then the fields.
+-- 9: a lent buffer has the wrong length (factors 16; the sixteen pulses likewise). Then the fields.
 unfoldable pub decodeQuestions : Fields → ℕ → List Question
 decodeQuestions f len = ask 9 0 (not (eqb len 16)) ∷ fieldQuestions f
 
@@ -32,3 +32,7 @@ fieldFactors f = factorsOf (f .«low_row») (f .«high_row») (f .shape) (f .gai
 -- the whole result of a call, r, and what the buffer holds at return, new, where it held old
 abbrev pub DecodeSays : Fields → List Float → Answer → List Float → Type 0
 DecodeSays f old r new = (r ≡ decodeAnswer f (length old)) × (new ≡ kept r (fieldFactors f) old)
+
+-- the same for the pulses alone
+abbrev pub PulsesSays : Fields → List ℤ → Answer → List ℤ → Type 0
+PulsesSays f old r new = (r ≡ decodeAnswer f (length old)) × (new ≡ kept r (fieldPulses f) old)

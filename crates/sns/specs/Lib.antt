@@ -5,6 +5,7 @@ pub mod Fields
 pub mod Decode
 pub mod Encode
 pub mod Interpolate
+pub mod Shape
 pub mod Unpack
 pub mod Pack
 pub mod Claims

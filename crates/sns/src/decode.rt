@@ -1,13 +1,14 @@
-// Decoding: the sixteen factors of a frame's fields.
+// Decoding: the sixteen factors of a frame's fields, and its sixteen pulses alone.
 use crate::Answer;
 use crate::fields::Fields;
 use crate::fields::field_refusal;
 use sns_tables::spec_noise_shape_quant_tables as tables;
 ghost use mathlib.Core.Path.{_≡_};
+ghost use lib.ListN.{length};
 ghost use Rattle.sns.specs.declared.Answer.the-variants.{Done};
 ghost use Rattle.sns.specs.Answers.{answerOf};
 ghost use Rattle.sns.specs.Fields.{fieldQuestions};
-ghost use Rattle.sns.specs.Decode.{fieldPulses, fieldFactors, DecodeSays};
+ghost use Rattle.sns.specs.Decode.{fieldPulses, fieldFactors, DecodeSays, PulsesSays};
 
 // The sixteen pulses of accepted fields.
 fn pulses_of(f: Fields) -> [i32; 16]
@@ -60,6 +61,34 @@ pub fn decode(fields: Fields, factors: &mut [f32]) -> Answer
         Answer::No(number, place) => Answer::No(number, place),
         Answer::Done => {
             crate::fill(factors_of(fields), factors);
+            Answer::Done
+        }
+    }
+}
+
+// Sixteen pulses into a lent row of sixteen.
+fn fill_pulses(from: [i32; 16], to: &mut [i32])
+    requires { ⌜ length (now to) ≡ 16 ⌝ }
+    ensures { λ _. ⌜ now (to .exit) ≡ from ⌝ }
+{
+    let mut n = 0usize;
+    while n < 16 {
+        to[n] = from[n];
+        n += 1;
+    }
+}
+
+// Fills `pulses`, sixteen of them, from the fields: what the factors are synthesised from. Refused as `decode` is.
+pub fn decode_pulses(fields: Fields, pulses: &mut [i32]) -> Answer
+    ensures { λ r. ⌜ PulsesSays fields (now (pulses .entry)) r (now (pulses .exit)) ⌝ }
+{
+    if pulses.len() != 16 {
+        return Answer::No(9, 0);
+    }
+    match field_refusal(fields) {
+        Answer::No(number, place) => Answer::No(number, place),
+        Answer::Done => {
+            fill_pulses(pulses_of(fields), pulses);
             Answer::Done
         }
     }
