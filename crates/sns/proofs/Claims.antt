@@ -5,7 +5,7 @@ use Prim.Native.Nat.{ℕ}
 use native.Mathlib.Omega.{arith}
 use borrow.Author.Tests.{not-false, leb-false, eqb-true}
 use lib.ListN.{length}
-use Rattle.interpolation.specs.Bands.{bandsOf}
+use Rattle.interpolation.specs.Bands.{interpolated}
 use Rattle.shaping.specs.Shaping.{shapedOf}
 use Rattle.numbering.specs.Numbering.{leadSign, indexOf, vectorAt}
 use Rattle.numbering.proofs.Claims.{claim}
@@ -40,7 +40,7 @@ pub pulses-pinned : PulsesPinned
 pulses-pinned f old r r′ new new′ = pinned (decodeAnswer f (length old)) (fieldPulses f) old
 
 pub interpolate-pinned : InterpolatePinned
-interpolate-pinned factors count old r r′ new new′ = pinned (interpolateAnswer factors count (length old)) (bandsOf factors count) old
+interpolate-pinned factors count old r r′ new new′ = pinned (interpolateAnswer factors count (length old)) (interpolated factors count) old
 
 pub shape-pinned : ShapePinned
 shape-pinned rate ten count gains old r r′ new new′ = pinned (shapeAnswer rate ten count gains old) (shapedOf rate ten gains old) old
