@@ -172,13 +172,13 @@ fn synthesize(d: &[[f32; 16]; 16], st1: &[f32; 16], xq: &[f32; 16], gain: f32) -
     scfq
 }
 
-pub fn sns_quant_stage2(r1: [f32; 16], st1: [f32; 16]) -> SnsStage2Result
-    ensures { λ r. ⌜ r ≡ stage2Of r1 st1 ⌝ }
+pub fn sns_quant_stage2(r1: &[f32; 16], st1: &[f32; 16]) -> SnsStage2Result
+    ensures { λ r. ⌜ r ≡ stage2Of (now (r1 .entry)) (now (st1 .entry)) ⌝ }
 {
     let d = sns_tables::spec_noise_shape_quant_tables::d();
 
     // stage 2 target preparation
-    let t2rot = stage2_target::rotate(&d, &r1);
+    let t2rot = stage2_target::rotate(&d, r1);
     let abs_x = stage2_target::absolutes(&t2rot);
 
     // steps 1 to 7: the pulses of the four shapes
@@ -194,7 +194,7 @@ pub fn sns_quant_stage2(r1: [f32; 16], st1: [f32; 16]) -> SnsStage2Result
 
     // synthesis of the quantized scale factors
     let sns_xq_shape_j = s.sns_xq_shape_j;
-    let scfq = synthesize(&d, &st1, &sns_xq_shape_j, s.g_gain_i_shape_j);
+    let scfq = synthesize(&d, st1, &sns_xq_shape_j, s.g_gain_i_shape_j);
     SnsStage2Result {
         shape_j: s.shape_j,
         gind: s.gind,

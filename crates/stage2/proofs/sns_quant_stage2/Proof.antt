@@ -43,14 +43,11 @@ joint-index-requires : tie.Need-joint-index-requires
 joint-index-requires c κs = joint-room _ _ (c .before .before .before .before .select .ensures) _ (c .before .add-signs .ensures) _ (c .enumerate .ensures)
 
 synthesize-requires : tie.Need-synthesize-requires
-synthesize-requires c κs =
-    let s = c .before .before .before .before .before .before .before .before .before in
-    let t = s .before .before .before .before .before .before .before in
-    t .before .before .before .d .ensures
+synthesize-requires c κs = search needs
 
 returns : tie.Need-returns
 returns c =
-    let j = c .before .before .before .before .before in
+    let j = c .before .before .before .before in
     let s = j .before .before .before .before .before in
     let t = s .before .before .before .before .before .before .before in
     stage2-is _ _ _ _ (t .rotate .ensures)
