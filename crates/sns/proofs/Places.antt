@@ -14,6 +14,9 @@ use Rattle.list_laws.proofs.Every.{at-below}
 use Rattle.sns_tables.specs.Bands.{limitTables, bandsOf, lastLimit}
 use Rattle.shaping.proofs.Laws.{bands-most}
 use Rattle.interpolation.specs.Bands.{countOk}
+use Rattle.numbering.specs.Numbering.{leadSign, indexOf}
+use Rattle.sns.specs.declared.Answer.{Answer}
+use Rattle.sns.specs.declared.Answer.the-variants.{Done, No}
 use Rattle.sns.specs.declared.fields.Fields.{Fields}
 use Rattle.sns.specs.Answers.{Question, ask, answerOf, placeOf}
 use Rattle.sns.specs.Elements.{factorQuestions, valueQuestions}
@@ -22,7 +25,7 @@ use Rattle.sns.specs.Decode.{decodeQuestions, decodeAnswer}
 use Rattle.sns.specs.Interpolate.{interpolateQuestions, interpolateAnswer}
 use Rattle.sns.specs.Shape.{shapeQuestions, shapeAnswer}
 use Rattle.sns.specs.Unpack.{unpackQuestions, unpackAnswer}
-use Rattle.sns.specs.Pack.{packQuestions}
+use Rattle.sns.specs.Pack.{packQuestions, packedAs, packAnswer, answered}
 
 Most : List Question → Type 0
 Most qs = placeOf (answerOf qs) ≤ 400
@@ -109,6 +112,10 @@ unfolding Most unpackQuestions
 unpack-place n k sign index len =
     ask-step 10 0 _ _ tt (λ a. ask-step 9 0 _ _ tt (λ b. ask-step 4 0 _ _ tt (λ d. ask-step 5 0 _ _ tt (λ e. none))))
 
-pub pack-place : (n k : ℕ) (v : List ℤ) → placeOf (answerOf (packQuestions n k v)) ≤ 400
+pub pack-place : (n k : ℕ) (v : List ℤ) → placeOf (answered (packAnswer n k v)) ≤ 400
 unfolding Most packQuestions
-pack-place n k v = ask-step 10 0 _ _ tt (λ a. ask-step 9 0 _ _ tt (λ b. ask-step 6 0 _ _ tt (λ d. none)))
+pack-place n k v = by (answerOf (packQuestions n k v)) (ask-step 10 0 _ _ tt (λ a. ask-step 9 0 _ _ tt (λ b. ask-step 6 0 _ _ tt (λ d. none))))
+  where
+    by : (a : Answer) → placeOf a ≤ 400 → placeOf (answered (packedAs a (indexOf v) (leadSign v))) ≤ 400
+    by Done h = h
+    by (No number place) h = h
