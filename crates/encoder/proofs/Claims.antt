@@ -1,32 +1,39 @@
--- The claims of specs/Claims.antt: stage 1's and stage 2's, put together. Assumes nothing.
-use Prim.Native.Nat.{ℕ, _+_, _≤_}
-use native.Mathlib.Nat.{le-trans}
-use native.Mathlib.Omega.{arith}
+-- The claims of both stages, for factors of at most 512: their residuals are at most 517. Assumes nothing.
 use mathlib.Core.List.{List}
-use lib.Dec.{lit<, lit≤}
+use Prim.Native.Nat.{ℕ, _<_}
+use lib.Dec.{T, lit≤}
 use lib.ListN.{getD}
 use lib.Ieee.{Float, nan}
 use Rattle.float_laws.specs.Bounded.{Bounded}
-use Rattle.float_laws.proofs.Size.{within-up, within-finite}
+use Rattle.float_laws.specs.Kind.{finite}
+use Rattle.float_laws.proofs.Size.{within-finite}
 use Rattle.stage1.specs.Stage1.{residual}
-use Rattle.stage1.proofs.Nearest.{bounded-finite, low-first, high-first}
-use Rattle.stage1.proofs.Residual.{residual-within}
 use Rattle.stage2_target.specs.Target.{targetOf}
-use Rattle.stage2_target.proofs.Claims.{target-bounded}
-use Rattle.stage2.proofs.Claims.{choice-first}
-use Rattle.encoder.specs.Claims.{RowsFirst, NoneBeats}
+use Rattle.candidates.proofs.Claims.{no-nan}
+use Rattle.stage2.specs.Stage2.{candidatesOf}
+use Rattle.stage2.proofs.Claims.{choice-first, nothing-nan}
+use Rattle.stage1.proofs.Nearest as rows
+use Rattle.stage1.proofs.Residual.{residual-within}
+use Rattle.encoder.specs.Claims.{NoneNan, AllNearest}
 
-pub rows-first : RowsFirst
-rows-first limit h x b = (low-first x (bounded-finite limit x b), high-first x (bounded-finite limit x b))
+finite-factors : (x : List Float) → Bounded 16 512 x → (n : ℕ) → n < 16 → T (finite (getD x n nan))
+finite-factors x B n h = within-finite (getD x n nan) 512 1 (B n h)
 
--- residuals of factors within 512 are within 517
-small-residual : (limit : ℕ) → limit ≤ 512 → (x : List Float) → Bounded 16 limit x → Bounded 16 517 (residual x)
-small-residual limit h x b n l =
-    within-up (getD (residual x) n nan) (limit + 5) 1 517 1 (lit< tt) (omega arith) (residual-within limit (le-trans (up limit h) (lit≤ tt)) x b n l)
-  where
-    up : (a : ℕ) → a ≤ 512 → a + 5 ≤ 517
-    up a q = omega arith
+residuals : (x : List Float) → Bounded 16 512 x → Bounded 16 517 (residual x)
+residuals x B = residual-within 512 (lit≤ tt) x B
 
-pub none-beats : NoneBeats
-none-beats limit h x b =
-    choice-first (targetOf (residual x)) (λ n l. within-finite (getD (targetOf (residual x)) n nan) 16384 1 (target-bounded (residual x) (small-residual limit h x b) n l))
+pub none-nan : NoneNan
+none-nan x B =
+    let f = nothing-nan (residual x) (residuals x B) in
+    record {
+      rows = λ row h. rows.no-nan x (finite-factors x B) row h;
+      searches = f .0;
+      distortions = λ i h. no-nan (targetOf (residual x)) (candidatesOf (targetOf (residual x))) (f .1) i h;
+    }
+
+pub all-nearest : AllNearest
+all-nearest x B = record {
+  low = rows.low-first x (finite-factors x B);
+  high = rows.high-first x (finite-factors x B);
+  choice = choice-first (targetOf (residual x)) (nothing-nan (residual x) (residuals x B) .1 .target);
+}

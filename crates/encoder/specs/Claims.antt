@@ -1,17 +1,32 @@
--- What is claimed of the quantizer, for sixteen factors within a limit of at most 512. Definitions only; the proofs are in proofs/Claims.
-use Prim.Native.Nat.{ℕ, _≤_}
+-- What is shown of the quantizer over the sixteen factors, for factors of at most 512 in size. Definitions only; the proofs are in proofs/Claims.
+use mathlib.Core.Bool.{not}
 use mathlib.Core.List.{List}
-use lib.Ieee.{Float}
+use Prim.Native.Nat.{ℕ, _<_}
+use lib.Dec.{T}
+use lib.Ieee.{Float, isNan}
 use Rattle.float_laws.specs.Bounded.{Bounded}
 use Rattle.float_laws.specs.Least.{FirstLeast}
 use Rattle.stage1.specs.Stage1.{lowDistance, highDistance, lowRow, highRow, residual}
-use Rattle.stage2_target.specs.Target.{targetOf}
+use Rattle.stage2_target.specs.Target.{targetOf, absolutesOf}
+use Rattle.shape_search.specs.Claims.{Finite}
+use Rattle.candidates.specs.Scan.{choices, distortionAt}
+use Rattle.stage2.specs.Stage2.{candidatesOf}
 use Rattle.stage2.specs.Claims.{FirstChoice}
 
--- each row is the first of 32 with the least computed distance
-abbrev pub RowsFirst : Type 0
-RowsFirst = (limit : ℕ) → limit ≤ 512 → (x : List Float) → Bounded 16 limit x → FirstLeast (lowDistance x) 32 (lowRow x) × FirstLeast (highDistance x) 32 (highRow x)
+-- no compared value is NaN: the distances of the rows, the products of the three searches (these are finite), the distortions of the choices
+pub record NothingNan (x : List Float) : Type 0 where
+  pub rows : (row : ℕ) → row < 32 → T (not (isNan (lowDistance x row))) × T (not (isNan (highDistance x row)))
+  pub searches : Finite (absolutesOf (targetOf (residual x)))
+  pub distortions : (i : ℕ) → i < choices → T (not (isNan (distortionAt (targetOf (residual x)) (candidatesOf (targetOf (residual x))) i)))
 
--- no scanned choice beats the answer: its shape and gain are those of the first scanned candidate with the least computed distortion
-abbrev pub NoneBeats : Type 0
-NoneBeats = (limit : ℕ) → limit ≤ 512 → (x : List Float) → Bounded 16 limit x → FirstChoice (targetOf (residual x))
+abbrev pub NoneNan : Type 0
+NoneNan = (x : List Float) → Bounded 16 512 x → NothingNan x
+
+-- the rows and the choice of the answer are the first with the least computed distance, and the first with the least computed distortion
+pub record Nearest (x : List Float) : Type 0 where
+  pub low : FirstLeast (lowDistance x) 32 (lowRow x)
+  pub high : FirstLeast (highDistance x) 32 (highRow x)
+  pub choice : FirstChoice (targetOf (residual x))
+
+abbrev pub AllNearest : Type 0
+AllNearest = (x : List Float) → Bounded 16 512 x → Nearest x
