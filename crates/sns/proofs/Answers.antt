@@ -29,7 +29,7 @@ done-or-no : Answer → ℕ
 done-or-no Done = 0
 done-or-no (No number place) = 1
 
-no-not-done : (number place : ℕ) → No number place ≡ Done → ⊥
+pub no-not-done : (number place : ℕ) → No number place ≡ Done → ⊥
 unfolding done-or-no
 no-not-done number place e = let q : _≡_ {A = ℕ} 1 0 = ap done-or-no e in omega arith
 

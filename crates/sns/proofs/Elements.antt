@@ -21,7 +21,7 @@ use Rattle.sns.specs.declared.Answer.{Answer}
 use Rattle.sns.specs.declared.Answer.the-variants.{Done, No}
 use Rattle.sns.specs.Answers.{answerOf}
 use Rattle.sns.specs.Elements.{factorQuestions, valueQuestions}
-use Rattle.sns.proofs.Answers.{none-left, not-given, done}
+use Rattle.sns.proofs.Answers.{no-not-done, none-left, not-given, done}
 
 -- a scan's result as an answer
 scanned : Scanned → Answer
@@ -47,6 +47,15 @@ refused-factor limit xs number place e = ap scanned e ∙ sym (factors-from limi
 pub factors-taken : (limit : Float) (xs : List Float) → Taken ≡ firstRefused limit xs → Done ≡ answerOf (factorQuestions limit 0 xs)
 unfolding scanned
 factors-taken limit xs e = ap scanned e ∙ sym (factors-from limit 0 xs)
+
+-- and back: where no factor is refused the scan found none
+pub done-taken : (limit : Float) (xs : List Float) → answerOf (factorQuestions limit 0 xs) ≡ Done → firstRefused limit xs ≡ Taken
+unfolding scanned
+done-taken limit xs e = go (firstRefused limit xs) (sym (factors-from limit 0 xs) ∙ e)
+  where
+    go : (r : Scanned) → scanned r ≡ Done → r ≡ Taken
+    go Taken h = refl
+    go (Refused number place) h = absurd (no-not-done number place h)
 
 -- the values from i on start with the value at i
 pub value-at : (xs : List Float) (i : ℕ) (f : Bool) → i < length xs → f ≡ finite (getD xs i nan)

@@ -10,3 +10,4 @@ pub mod PackAnswers
 pub mod Taken
 pub mod Places
 pub mod Claims
+pub mod EncodeClaims

@@ -9,3 +9,4 @@ pub mod Shape
 pub mod Unpack
 pub mod Pack
 pub mod Claims
+pub mod EncodeClaims

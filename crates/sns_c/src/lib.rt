@@ -8,7 +8,7 @@ ghost use Prim.Native.Nat.{_≤_};
 ghost use lib.ListN.{length};
 ghost use Rattle.factor.specs.Check.{factorLimit, checkedOf};
 ghost use Rattle.numbering.specs.Numbering.{vectorAt};
-ghost use Rattle.interpolation.specs.Bands.{bandsOf};
+ghost use Rattle.interpolation.specs.Bands.{interpolated};
 ghost use Rattle.shaping.specs.Shaping.{shapedOf};
 ghost use Rattle.sns.specs.Answers.{placeOf};
 ghost use Rattle.sns.specs.Decode.{decodeAnswer, fieldFactors};
@@ -110,7 +110,7 @@ pub extern "C" fn lc3_sns_decode(
 // Sixteen factors into bands.
 #[no_mangle]
 pub extern "C" fn lc3_sns_interpolate(factors: &[f32], band_count: u32, bands: &mut [f32]) -> Code
-    ensures { λ r. ⌜ CodeSays (interpolateAnswer (now (factors .entry)) «band_count» (length (now (bands .entry)))) (bandsOf (now (factors .entry)) «band_count») (now (bands .entry)) r (now (bands .exit)) ⌝ }
+    ensures { λ r. ⌜ CodeSays (interpolateAnswer (now (factors .entry)) «band_count» (length (now (bands .entry)))) (interpolated (now (factors .entry)) «band_count») (now (bands .entry)) r (now (bands .exit)) ⌝ }
 {
     coded(sns::interpolate::interpolate(factors, band_count, bands))
 }
