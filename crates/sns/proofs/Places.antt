@@ -22,6 +22,8 @@ use Rattle.sns.specs.Answers.{Question, ask, answerOf, placeOf}
 use Rattle.sns.specs.Elements.{factorQuestions, valueQuestions}
 use Rattle.sns.specs.Fields.{fieldQuestions}
 use Rattle.sns.specs.Decode.{decodeQuestions, decodeAnswer}
+use Rattle.factor.specs.Check.{factorLimit}
+use Rattle.sns.specs.Encode.{encodeQuestions, encodeAnswer}
 use Rattle.sns.specs.Interpolate.{interpolateQuestions, interpolateAnswer}
 use Rattle.sns.specs.Shape.{shapeQuestions, shapeAnswer}
 use Rattle.sns.specs.Unpack.{unpackQuestions, unpackAnswer}
@@ -119,3 +121,9 @@ pack-place n k v = by (answerOf (packQuestions n k v)) (ask-step 10 0 _ _ tt (λ
     by : (a : Answer) → placeOf a ≤ 400 → placeOf (answered (packedAs a (indexOf v) (leadSign v))) ≤ 400
     by Done h = h
     by (No number place) h = h
+
+pub encode-place : (factors : List Float) (len : ℕ) → placeOf (encodeAnswer factors len) ≤ 400
+unfolding Most encodeQuestions
+encode-place factors len =
+    ask-step 9 0 _ _ tt (λ a. ask-step 9 0 _ _ tt (λ b.
+    of-factors factorLimit 0 factors (omega (arith, eqb-true (length factors) 16 (not-false _ a)))))

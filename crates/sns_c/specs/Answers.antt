@@ -9,7 +9,12 @@ use Rattle.sns.specs.declared.fields.Fields.{Fields}
 use Rattle.sns.specs.declared.pack.Packed.{Packed}
 use Rattle.sns.specs.Answers.{numberOf, placeOf, kept}
 use Rattle.sns.specs.Pack.{answered, indexIn, signIn}
+use lib.Ieee.{Float}
+use Rattle.encoder.specs.declared.Quantized.{Quantized}
+use Rattle.sns.specs.declared.encode.Encoded.{Encoded}
+use Rattle.sns.specs.Encode.{encodedAs}
 use Rattle.sns_c.specs.declared.Code.{Code}
+use Rattle.sns_c.specs.declared.EncodedCode.{EncodedCode}
 use Rattle.sns_c.specs.declared.PackedCode.{PackedCode}
 use Rattle.sns_c.specs.declared.CheckedCode.{CheckedCode}
 
@@ -22,6 +27,25 @@ pub record IsCode (a : Answer) (r : Code) : Type 0 where
 pub record CodeSays {A : Type 0} (a : Answer) (filled old : List A) (r : Code) (new : List A) : Type 0 where
   pub code : IsCode a r
   pub buffer : new ≡ kept a filled old
+
+-- number and place, and the encoder's fields and joint index, 0 where the call is refused
+pub record IsEncoded (e : Encoded) (r : EncodedCode) : Type 0 where
+  pub number : r .number ≡ numberOf (e .answer)
+  pub place : r .place ≡ placeOf (e .answer)
+  pub low-row : r .«low_row» ≡ e .fields .«low_row»
+  pub high-row : r .«high_row» ≡ e .fields .«high_row»
+  pub shape : r .shape ≡ e .fields .shape
+  pub gain : r .gain ≡ e .fields .gain
+  pub sign-a : r .«sign_a» ≡ e .fields .«sign_a»
+  pub sign-b : r .«sign_b» ≡ e .fields .«sign_b»
+  pub joint-index : r .«joint_index» ≡ e .«joint_index»
+  pub index-a : r .«index_a» ≡ e .fields .«index_a»
+  pub index-b : r .«index_b» ≡ e .fields .«index_b»
+
+-- that, and what the sixteen hold at return, new, where they held old
+pub record EncodedSays (a : Answer) (q : Quantized) (old : List Float) (r : EncodedCode) (new : List Float) : Type 0 where
+  pub encoded : IsEncoded (encodedAs a q) r
+  pub buffer : new ≡ kept a (q .stage2 .scfq) old
 
 -- number and place, and the lead sign and the index, 0 where the call is refused
 pub record IsPacked (a : Packed) (r : PackedCode) : Type 0 where

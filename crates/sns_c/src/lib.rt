@@ -12,11 +12,13 @@ ghost use Rattle.interpolation.specs.Bands.{interpolated};
 ghost use Rattle.shaping.specs.Shaping.{shapedOf};
 ghost use Rattle.sns.specs.Answers.{placeOf};
 ghost use Rattle.sns.specs.Decode.{decodeAnswer, fieldFactors};
+ghost use Rattle.encoder.specs.Quantized.{quantizedOf};
+ghost use Rattle.sns.specs.Encode.{encodeAnswer};
 ghost use Rattle.sns.specs.Interpolate.{interpolateAnswer};
 ghost use Rattle.sns.specs.Shape.{shapeAnswer};
 ghost use Rattle.sns.specs.Pack.{packAnswer};
 ghost use Rattle.sns.specs.Unpack.{unpackAnswer};
-ghost use Rattle.sns_c.specs.Answers.{IsCode, CodeSays, IsPacked, IsChecked, fieldsOf};
+ghost use Rattle.sns_c.specs.Answers.{IsCode, CodeSays, EncodedSays, IsPacked, IsChecked, fieldsOf};
 
 // What a call that fills a buffer answers; 0 and 0 where it is done.
 #[repr(C)]
@@ -39,6 +41,22 @@ pub struct PackedCode {
 pub struct CheckedCode {
     pub number: u32,
     pub value: f32,
+}
+
+// What the encoder answers.
+#[repr(C)]
+pub struct EncodedCode {
+    pub number: u32,
+    pub place: u32,
+    pub low_row: u32,
+    pub high_row: u32,
+    pub shape: u32,
+    pub gain: u32,
+    pub sign_a: u32,
+    pub sign_b: u32,
+    pub joint_index: u32,
+    pub index_a: u32,
+    pub index_b: u32,
 }
 
 // No call's place is over 400.
@@ -105,6 +123,30 @@ pub extern "C" fn lc3_sns_decode(
         index_b: index_b,
     };
     coded(sns::decode::decode(fields, factors))
+}
+
+// Sixteen factors into the fields and sixteen synthesised factors.
+#[no_mangle]
+pub extern "C" fn lc3_sns_encode(factors: &[f32], out: &mut [f32]) -> EncodedCode
+    ensures { λ r. ⌜ EncodedSays (encodeAnswer (now (factors .entry)) (length (now (out .entry)))) (quantizedOf (now (factors .entry))) (now (out .entry)) r (now (out .exit)) ⌝ }
+{
+    let e = sns::encode::encode(factors, out);
+    let f = e.fields;
+    let a = e.answer;
+    let c = coded(a);
+    EncodedCode {
+        number: c.number,
+        place: c.place,
+        low_row: f.low_row,
+        high_row: f.high_row,
+        shape: f.shape,
+        gain: f.gain,
+        sign_a: f.sign_a,
+        sign_b: f.sign_b,
+        joint_index: e.joint_index,
+        index_a: f.index_a,
+        index_b: f.index_b,
+    }
 }
 
 // Sixteen factors into bands.
