@@ -1,9 +1,11 @@
 # `make` alone lists the targets.
-.PHONY: help test check format tables
+.PHONY: help test check format tables staticlib bindings
 
 help:
 	@echo 'make test      the gate: format, the Rust comparisons, then every proof, must-fail edit and program from nothing'
 	@echo 'make check     prove what changed since the last time, and run the programs: the quick loop'
+	@echo 'make staticlib the library for C and Rust: target/staticlib/libsns_c.a, with include/lc3_sns.h'
+	@echo 'make bindings  the library called from C and from bindings/rust (see tests/bindings.sh)'
 	@echo 'make format    lay out every Rattle and antt file'
 	@echo 'make tables    make the recorded tables anew from the Rust source (see tests/tables/record.sh)'
 
@@ -14,6 +16,12 @@ test: kit
 
 check: kit
 	rt check
+
+staticlib: kit
+	rt staticlib sns_c
+
+bindings: kit
+	sh tests/bindings.sh
 
 format: kit
 	rt fmt

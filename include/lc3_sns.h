@@ -1,8 +1,9 @@
 /*
  * LC3 spectral noise shaping: decoder synthesis, interpolation and shaping, with the numbering of pulse vectors.
  *
- * Every call takes any numbers and any buffers, always returns, and asks nothing of its caller. Bad input is refused: `number` is
- * then not 0, every lent buffer holds what it held, and every other field is 0. `place` tells where.
+ * Every call takes any numbers and any floats in buffers of any length, and always returns. Bad input is refused: `number` is then not 0,
+ * every lent buffer holds what it held, and the answer's other fields are 0, but for `place`, which tells where, and for the offending value
+ * of no. 8 in the check of one factor.
  *
  *   number  given exactly when
  *     1     a codebook row is over 31                                      (place 0 low row, 1 high row)
@@ -16,10 +17,13 @@
  *     9     a lent buffer has the wrong length
  *    10     the rate index is over 4, or the pair is none of the four
  *    11     the band count isn't 60 or 64, or isn't the table's
- *    12     a spectrum line or linear gain is NaN or infinite              (place: its index; all gains are asked first)
+ *    12     a spectrum line or linear gain is NaN or infinite              (place: its index in the lines or the gains)
  *
- * They are asked in the order 10, 11, 9, 1, 2, 3, 4, 5, 6, then elements by place; a call is asked only the questions for the inputs it has.
- * A buffer is a pointer and its length in elements. The pointer is not null, is aligned for its type, and no two buffers of one call overlap.
+ * They are asked in the order 10, 11, 9, 1, 2, 3, 4, 5, 6, then elements by place; a call is asked only the questions for the inputs it has,
+ * and answers the first that is given. Number 12 looks at all gains, then at the lines below the last band limit. Where no place is named it is 0.
+ *
+ * A buffer is a pointer and its length in elements. The pointer is not null (even for a length of 0) and aligned for its type, and a buffer
+ * that a call fills overlaps no other.
  */
 #ifndef LC3_SNS_H
 #define LC3_SNS_H

@@ -1,11 +1,8 @@
 -- What decode, interpolate and shape take, both ways: each question in turn. Assumes nothing.
-use mathlib.Core.Path.{_≡_, sym, ap, _∙_, subst}
+use mathlib.Core.Path.{_≡_, sym, ap, subst}
 use mathlib.Core.Bool.{Bool, true, false, not, _||_, false≢true}
-use mathlib.Core.List.{List}
-use Prim.Native.Nat.{ℕ}
 use borrow.Author.Tests.{not-false, ltb-false, eqb-true, eq-eqb}
 use lib.Dec.{eqb}
-use lib.ListN.{length}
 use lib.Ieee.{Float, nan}
 use Rattle.float_laws.specs.Size.{Within}
 use Rattle.list_laws.proofs.ListOf.{getD-listOf}
@@ -13,7 +10,6 @@ use Rattle.sns_tables.specs.Bands.{bandsOf}
 use Rattle.synthesis.proofs.Claims.{within-64}
 use Rattle.interpolation.specs.Bands.{bandLimit, countOk}
 use Rattle.sns.specs.declared.Answer.the-variants.{Done}
-use Rattle.sns.specs.declared.fields.Fields.{Fields}
 use Rattle.sns.specs.Decode.{decodeQuestions, decodeAnswer}
 use Rattle.sns.specs.Interpolate.{interpolateQuestions, interpolateAnswer}
 use Rattle.sns.specs.Shape.{shapeQuestions, shapeAnswer}

@@ -74,7 +74,8 @@ pub fn shape(rate: u32, ten_ms: bool, band_count: u32, gains: &[f32], lines: &mu
         return Answer::No(9, 0);
     }
     let end = last_limit(rate, ten_ms);
-    if lines.len() < end {
+    let count = lines.len();
+    if count < end {
         return Answer::No(9, 0);
     }
     if let Answer::No(number, place) = value_refusal(gains) {

@@ -1,6 +1,6 @@
 -- By cases on the float, each answer is what the tests that led there leave.
 use mathlib.Core.Path.{_≡_, refl, sym, ap, subst}
-use mathlib.Core.Bool.{Bool, true, false, false≢true}
+use mathlib.Core.Bool.{true, false, false≢true}
 use lib.Dec.{T}
 use lib.Ieee.{Float, nan, inf, fin, eq, ne, ofBits, neg, nanBits}
 use lib.Ieee.Compare.{differs-from-itself}

@@ -1,0 +1,26 @@
+-- The claims of specs/Claims.antt: every field is given by an equation. Assumes nothing.
+use mathlib.Core.Path.{_≡_, sym, _∙_}
+use Rattle.sns_c.specs.declared.Code.{Code}
+use Rattle.sns_c.specs.declared.PackedCode.{PackedCode}
+use Rattle.sns_c.specs.declared.CheckedCode.{CheckedCode}
+use Rattle.sns_c.specs.Claims.{CodePinned, PackedPinned, CheckedPinned}
+
+same-code : (r r′ : Code) → r .number ≡ r′ .number → r .place ≡ r′ .place → r ≡ r′
+same-code r r′ a b = rw (← a, ← b)
+
+same-packed : (r r′ : PackedCode) → r .number ≡ r′ .number → r .place ≡ r′ .place → r .sign ≡ r′ .sign → r .index ≡ r′ .index → r ≡ r′
+same-packed r r′ a b c d = rw (← a, ← b, ← c, ← d)
+
+same-checked : (r r′ : CheckedCode) → r .number ≡ r′ .number → r .value ≡ r′ .value → r ≡ r′
+same-checked r r′ a b = rw (← a, ← b)
+
+pub code-pinned : CodePinned
+code-pinned A a filled old r r′ new new′ s s′ =
+    (same-code r r′ (s .code .number ∙ sym (s′ .code .number)) (s .code .place ∙ sym (s′ .code .place)), s .buffer ∙ sym (s′ .buffer))
+
+pub packed-pinned : PackedPinned
+packed-pinned a r r′ s s′ =
+    same-packed r r′ (s .number ∙ sym (s′ .number)) (s .place ∙ sym (s′ .place)) (s .sign ∙ sym (s′ .sign)) (s .index ∙ sym (s′ .index))
+
+pub checked-pinned : CheckedPinned
+checked-pinned a r r′ s s′ = same-checked r r′ (s .number ∙ sym (s′ .number)) (s .value ∙ sym (s′ .value))
