@@ -39,6 +39,19 @@ extern "C" {
 /* What a call that fills a buffer answers. number 0: done. */
 typedef struct { uint32_t number, place; } lc3_sns_code;
 
+/*
+ * What the encoder answers. number 0: done.
+ *   low_row, high_row   codebook rows, 0 to 31
+ *   shape               0 to 3
+ *   gain                0 to 1, 3, 3, 7 for shapes 0 to 3
+ *   sign_a, sign_b      lead signs, 0 positive, 1 negative; sign_b is 0 in shapes 1 to 3
+ *   joint_index         at most 33460055 for shapes 0 and 1, 16708095 for shapes 2 and 3
+ *   index_a, index_b    the plain indices of sets A and B; index_b is 0 in shapes 1 to 3
+ */
+typedef struct {
+    uint32_t number, place, low_row, high_row, shape, gain, sign_a, sign_b, joint_index, index_a, index_b;
+} lc3_sns_encoded;
+
 /* What packing a vector answers. number 0: done; sign is the lead sign, index is below the pair's size. */
 typedef struct { uint32_t number, place, sign, index; } lc3_sns_packed;
 
@@ -47,6 +60,13 @@ typedef struct { uint32_t number; float value; } lc3_sns_checked;
 
 /* Checks one factor. Refusals: 7, 8. */
 lc3_sns_checked lc3_sns_check_factor(float x);
+
+/*
+ * Quantizes sixteen factors, and fills sixteen synthesised factors.
+ *   factors, out   16 elements each
+ * Refusals: 9, 7, 8.
+ */
+lc3_sns_encoded lc3_sns_encode(const float *factors, size_t factors_len, float *out, size_t out_len);
 
 /*
  * Synthesises sixteen factors from the decoder's fields; each lies within plus or minus 64. Shapes 1 to 3 don't look at sign_b and index_b.

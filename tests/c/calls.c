@@ -23,6 +23,18 @@ int main(void) {
     k = lc3_sns_check_factor(NAN);
     say("NaN is no. 7 with 0.0", k.number == 7 && k.value == 0.0f);
 
+    float scf[16] = {0}, out[16], held[16];
+    for (int i = 0; i < 16; i++) out[i] = held[i] = 5.0f;
+    scf[4] = INFINITY;
+    lc3_sns_encoded e = lc3_sns_encode(scf, 16, out, 16);
+    say("an infinite factor: no. 7 at its place, other fields 0", e.number == 7 && e.place == 4 && e.joint_index == 0 && e.low_row == 0);
+    say("and nothing is written", memcmp(out, held, sizeof out) == 0);
+    scf[4] = 0.0f;
+    e = lc3_sns_encode(scf, 16, out, 16);
+    say("zeros are quantized", e.number == 0 && e.shape < 4 && e.low_row < 32 && e.high_row < 32);
+    say("and the decoder takes the fields",
+        code_is(lc3_sns_decode(e.low_row, e.high_row, e.shape, e.gain, e.sign_a, e.sign_b, e.index_a, e.index_b, out, 16), 0, 0));
+
     int32_t vector[16], kept[16];
     for (int i = 0; i < 16; i++) vector[i] = kept[i] = 77;
     say("(10,10) index 2390004: no. 5", code_is(lc3_sns_unpack(10, 10, 0, 2390004, vector, 10), 5, 0));

@@ -58,6 +58,14 @@ pub struct Fields {
     pub index_b: u32,
 }
 
+/// What the encoder answers: the fields, their joint index, and the sixteen synthesised factors.
+#[derive(Clone, Copy, Debug, PartialEq)]
+pub struct Encoded {
+    pub fields: Fields,
+    pub joint_index: u32,
+    pub factors: [f32; 16],
+}
+
 /// The frame length.
 #[derive(Clone, Copy, Debug, PartialEq, Eq)]
 pub enum Frame {
@@ -87,6 +95,26 @@ pub fn check_factor(x: f32) -> Result<f32, FactorRefusal> {
         8 => Err(FactorRefusal::TooFar(c.value)),
         _ => Err(FactorRefusal::NotFinite),
     }
+}
+
+/// Quantizes sixteen factors. Refusals: 9, 7, 8.
+pub fn encode(factors: &[f32]) -> Result<Encoded, Refusal> {
+    let mut out = [0.0; 16];
+    let e = raw::encode(factors, &mut out);
+    if e.number != 0 {
+        return Err(Refusal { number: e.number, place: e.place });
+    }
+    let fields = Fields {
+        low_row: e.low_row,
+        high_row: e.high_row,
+        shape: e.shape,
+        gain: e.gain,
+        sign_a: e.sign_a,
+        sign_b: e.sign_b,
+        index_a: e.index_a,
+        index_b: e.index_b,
+    };
+    Ok(Encoded { fields, joint_index: e.joint_index, factors: out })
 }
 
 /// The sixteen factors of a frame's fields. Refusals: 1, 2, 3, 4, 5.

@@ -9,6 +9,21 @@ pub struct Code {
 }
 
 #[repr(C)]
+pub struct Encoded {
+    pub number: u32,
+    pub place: u32,
+    pub low_row: u32,
+    pub high_row: u32,
+    pub shape: u32,
+    pub gain: u32,
+    pub sign_a: u32,
+    pub sign_b: u32,
+    pub joint_index: u32,
+    pub index_a: u32,
+    pub index_b: u32,
+}
+
+#[repr(C)]
 pub struct Packed {
     pub number: u32,
     pub place: u32,
@@ -24,6 +39,7 @@ pub struct Checked {
 
 extern "C" {
     fn lc3_sns_check_factor(x: f32) -> Checked;
+    fn lc3_sns_encode(factors: *const f32, factors_len: usize, out: *mut f32, out_len: usize) -> Encoded;
     fn lc3_sns_decode(
         low_row: u32,
         high_row: u32,
@@ -52,6 +68,10 @@ extern "C" {
 
 pub fn check_factor(x: f32) -> Checked {
     unsafe { lc3_sns_check_factor(x) }
+}
+
+pub fn encode(factors: &[f32], out: &mut [f32]) -> Encoded {
+    unsafe { lc3_sns_encode(factors.as_ptr(), factors.len(), out.as_mut_ptr(), out.len()) }
 }
 
 pub fn decode(f: &Fields, factors: &mut [f32]) -> Code {

@@ -1,5 +1,5 @@
 //! Every call against the archive: done and refused, the corners that the rules name, and lent slices kept after a refusal.
-use lc3_sns::{check_factor, decode, interpolate, pack, shape, unpack, FactorRefusal, Fields, Frame, Packed, Refusal};
+use lc3_sns::{check_factor, decode, encode, interpolate, pack, shape, unpack, FactorRefusal, Fields, Frame, Packed, Refusal};
 
 fn no<T>(number: u32, place: u32) -> Result<T, Refusal> {
     Err(Refusal { number, place })
@@ -206,4 +206,31 @@ fn shape_refusals() {
     lines[79] = f32::NEG_INFINITY;
     assert_eq!(shape(0, Frame::TenMs, &gains, &mut lines), no(12, 79));
     assert!(lines[..79].iter().all(|&x| x == 1.0) && lines[79] == f32::NEG_INFINITY);
+}
+
+#[test]
+fn encode_done() {
+    let e = encode(&[0.0; 16]).unwrap();
+    assert!(e.joint_index <= if e.fields.shape < 2 { 33460055 } else { 16708095 });
+    // the answer depends on the factors alone
+    let x: Vec<f32> = (0..16).map(|n| (n as f32 * 0.37).sin() * 3.0).collect();
+    let first = encode(&x).unwrap();
+    encode(&[64.0; 16]).unwrap();
+    assert_eq!(encode(&x).unwrap(), first);
+    // decoded again the factors are the encoder's, but for the last bits
+    let again = decode(&first.fields).unwrap();
+    assert!(again.iter().zip(&first.factors).all(|(a, b)| (a - b).abs() < 1e-4));
+}
+
+#[test]
+fn encode_refusals() {
+    let mut x = [0.0f32; 16];
+    assert_eq!(encode(&x[..15]), no(9, 0));
+    x[3] = next(64.0);
+    x[7] = f32::NAN;
+    assert_eq!(encode(&x), no(8, 3));
+    x[3] = -64.0;
+    assert_eq!(encode(&x), no(7, 7));
+    x[7] = 64.0;
+    assert!(encode(&x).is_ok());
 }
