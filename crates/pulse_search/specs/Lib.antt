@@ -1,1 +1,2 @@
 pub mod Pulse
+pub mod Lanes

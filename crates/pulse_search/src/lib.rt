@@ -3,7 +3,10 @@
 ghost use mathlib.Core.Path.{_≡_};
 ghost use Prim.Native.Nat.{_+_, _-_, _<_, _≤_};
 ghost use lib.ListN.{length};
+ghost use Rattle.pulse_search.specs.Lanes.{firstOf};
 ghost use Rattle.pulse_search.specs.Pulse.{pairAt, replaces, bestTo, handedOn, start, more, totalTo};
+
+pub mod guess;
 
 // The running search record: the correlation of the pulses with the target, and their energy.
 pub struct SearchRecord {
@@ -30,8 +33,8 @@ fn replaces(p: SearchRecord, best: SearchRecord) -> bool
     (best.correlation * best.correlation) * p.energy < (p.correlation * p.correlation) * best.energy
 }
 
-// The best of places 0 to last.
-fn best_place(abs_x: &[f32; 16], y: &[u8; 16], r: SearchRecord, last: usize) -> usize
+// The best of places 0 to last, one place after another.
+fn scan_places(abs_x: &[f32; 16], y: &[u8; 16], r: SearchRecord, last: usize) -> usize
     requires { ⌜ last < 16 ⌝ }
     ensures { λ p. ⌜ p ≡ bestTo (now («abs_x» .entry)) (now (y .entry)) r last ⌝ }
 {
@@ -47,6 +50,29 @@ fn best_place(abs_x: &[f32; 16], y: &[u8; 16], r: SearchRecord, last: usize) -> 
         }
     }
     n_best
+}
+
+// The best of places 0 to last; low_x has zeros past them.
+fn best_place(
+    abs_x: &[f32; 16],
+    low_x: &[f32; 16],
+    y: &[u8; 16],
+    r: SearchRecord,
+    last: usize,
+) -> usize
+    requires { ⌜ (last < 16) × (now «low_x» ≡ firstOf (now «abs_x») last) ⌝ }
+    ensures { λ p. ⌜ p ≡ bestTo (now («abs_x» .entry)) (now (y .entry)) r last ⌝ }
+{
+    let c = guess::squares(low_x, r.correlation);
+    let e = guess::energies(y, r.energy);
+    let g = guess::guess(&c, &e);
+    if last < g {
+        return scan_places(abs_x, y, r, last);
+    }
+    if guess::unbeaten(&c, &e, g) != 1 {
+        return scan_places(abs_x, y, r, last);
+    }
+    g
 }
 
 // The pair for the next shape, of those of the last place scanned and of the place chosen.
@@ -70,11 +96,12 @@ pub fn add_unit_pulse(
     ensures handed { λ p. ⌜ p ≡ more (now («abs_x» .entry)) last («k_max» - k) (start (now (y .entry)) r) .handed ⌝ }
 {
     let count = k_max - k;
+    let low_x = guess::first_places(abs_x, last);
     let mut kept = r;
     let mut handed = r;
     let mut added = 0usize;
     while added < count {
-        let n_best = best_place(abs_x, y, kept, last);
+        let n_best = best_place(abs_x, &low_x, y, kept, last);
         let scanned = pair_at(abs_x, y, kept, last);
         let chosen = pair_at(abs_x, y, kept, n_best);
         handed = hand_on(scanned, chosen);

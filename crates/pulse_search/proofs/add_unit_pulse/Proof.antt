@@ -10,13 +10,16 @@ use Rattle.pulse_search.proofs.add_unit_pulse.Statement.{statement}
 use Rattle.pulse_search.proofs.add_unit_pulse.Tie as tie
 
 abbrev Inv-loop : tie.InvT-loop
-Inv-loop abs-x last k k-max y₀ count kept₀ handed₀ added₀ y kept handed added = (added ≤ count) × (search-of y kept handed ≡ more abs-x last added (start y₀ kept₀))
+Inv-loop abs-x last k k-max y₀ count low-x kept₀ handed₀ added₀ y kept handed added = (added ≤ count) × (search-of y kept handed ≡ more abs-x last added (start y₀ kept₀))
 
 abbrev μ-loop : tie.MeasureT-loop
-μ-loop abs-x last k k-max y₀ count kept₀ handed₀ added₀ y kept handed added = count - added
+μ-loop abs-x last k k-max y₀ count low-x kept₀ handed₀ added₀ y kept handed added = count - added
 
 sub-count : tie.Need-sub-count Inv-loop μ-loop
 sub-count c = search needs
+
+first-places-requires : tie.Need-first-places-requires Inv-loop μ-loop
+first-places-requires c κs = search needs
 
 loop-holds : tie.Need-loop-holds Inv-loop μ-loop
 loop-holds c = (search needs, search-start _ _ _ _)
@@ -28,25 +31,31 @@ pair-at-requires : tie.Need-pair-at-requires Inv-loop μ-loop
 pair-at-requires c κs = search needs
 
 pair-at-requires-2 : tie.Need-pair-at-requires-2 Inv-loop μ-loop
-pair-at-requires-2 c κs = best-under _ _ _ _ _ 16 (c .before .before .before .best-place .ensures) (c .before .before .before .before .before .before .before .pre .0)
+pair-at-requires-2 c κs =
+    let p = c .before .before .before in
+    best-under _ _ _ _ _ 16 (p .best-place .ensures) (p .before .before .before .before .before .before .pre .0)
 
 hand-on-requires : tie.Need-hand-on-requires Inv-loop μ-loop
 hand-on-requires c κs = search needs
 
 element-copy-out-y : tie.Need-element-copy-out-y Inv-loop μ-loop
-element-copy-out-y c = best-under _ _ _ _ _ 16 (c .before .before .before .before .before .best-place .ensures) (c .before .before .before .before .before .before .before .before .before .pre .0)
+element-copy-out-y c =
+    let p = c .before .before .before .before .before in
+    best-under _ _ _ _ _ 16 (p .best-place .ensures) (p .before .before .before .before .before .before .pre .0)
 
 add-y : tie.Need-add-y Inv-loop μ-loop
 add-y c =
-    let l = c .before .before .before .before .before .before .before .before .before in
-    let s = l .before in
     let p = c .before .before .before .before .before .before in
+    let l = p .before .before .before .before in
+    let s = l .before .before in
     let b : p .best-place .result < 16 = best-under _ _ _ _ _ 16 (p .best-place .ensures) (s .pre .0) in
-    let h = more-fits _ _ _ _ 16 255 _ _ _ (s .pre .0) (le-of-eq (sym (s .pre .1))) (search-pulses _ _ _ _ (l .loop .inv .1)) b (c .before .before .before .before .before .before .before .before .loop-test .taken) (s .pre .3) in
+    let h = more-fits _ _ _ _ 16 255 _ _ _ (s .pre .0) (le-of-eq (sym (s .pre .1))) (search-pulses _ _ _ _ (l .loop .inv .1)) b (p .before .before .before .loop-test .taken) (s .pre .3) in
     record { fits = omega (arith, h) }
 
 element-write-y : tie.Need-element-write-y Inv-loop μ-loop
-element-write-y c = best-under _ _ _ _ _ 16 (c .before .before .before .before .before .before .best-place .ensures) (c .before .before .before .before .before .before .before .before .before .before .pre .0)
+element-write-y c =
+    let p = c .before .before .before .before .before .before in
+    best-under _ _ _ _ _ 16 (p .best-place .ensures) (p .before .before .before .before .before .before .pre .0)
 
 add-added : tie.Need-add-added Inv-loop μ-loop
 add-added c = search needs
@@ -56,13 +65,14 @@ loop-less c = search needs
 
 loop-again : tie.Need-loop-again Inv-loop μ-loop
 loop-again c =
-    let l = c .before .before .before .before .before .before .before .before .before .loop in
     let p = c .before .before .before .before .before .before in
+    let l = p .before .before .before .before .loop in
     (search needs, search-step _ _ _ _ _ _ _ _ _ _ _ (l .inv .1) (p .best-place .ensures) (c .before .before .before .before .pair-at .ensures) (c .before .before .pair-at2 .ensures) (c .before .hand-on .ensures))
 
 returns : tie.Need-returns Inv-loop μ-loop
 returns c =
-    let e : c .before .loop .added ≡ c .before .before .args .k-max - c .before .before .args .k = omega arith in
+    let s = c .before .before .before in
+    let e : c .before .loop .added ≡ s .args .k-max - s .args .k = omega arith in
     let v = rw e at (c .before .loop .inv .1) in
     (search-pulses _ _ _ _ v, search-handed _ _ _ _ v)
 
@@ -73,6 +83,7 @@ add-unit-pulse-spec =
     Inv-loop
     μ-loop
     sub-count
+    first-places-requires
     loop-holds
     best-place-requires
     pair-at-requires

@@ -1,0 +1,77 @@
+-- The loop fills the lanes from the first up.
+use mathlib.Core.Path.{_≡_, refl}
+use Prim.Native.Nat.{_≤_, _-_}
+use native.Mathlib.Omega.{arith}
+use borrow.Author.Needs.{needs}
+use lib.Dec.{leb}
+use lib.ListN.{getD}
+use lib.Ieee.{nan}
+use Rattle.list_laws.proofs.Fill.{over, over-none, over-more}
+use Rattle.list_laws.proofs.Full.{full}
+use Rattle.pulse_search.specs.Lanes.{upToLast, firstOf}
+use Rattle.pulse_search.proofs.guess.first_places.Statement.{statement}
+use Rattle.pulse_search.proofs.guess.first_places.Tie as tie
+
+abbrev Inv-loop : tie.InvT-loop
+Inv-loop abs-x last x₀ n₀ x n = (n ≤ 16) × (x ≡ over (λ n. upToLast (leb n last) (getD abs-x n nan)) n x₀)
+
+abbrev μ-loop : tie.MeasureT-loop
+μ-loop abs-x last x₀ n₀ x n = 16 - n
+
+-- src/guess.rt:23:5
+loop-holds : tie.Need-loop-holds Inv-loop μ-loop
+loop-holds c = (search needs, over-none _ _)
+
+-- src/guess.rt:24:27
+mul-up-to-last : tie.Need-mul-up-to-last Inv-loop μ-loop
+mul-up-to-last c = search needs
+
+-- src/guess.rt:24:27
+element-copy-out-up-to-last : tie.Need-element-copy-out-up-to-last Inv-loop μ-loop
+element-copy-out-up-to-last c = search needs
+
+-- src/guess.rt:24:16
+up-to-last-requires : tie.Need-up-to-last-requires Inv-loop μ-loop
+up-to-last-requires c κs = search needs
+
+-- src/guess.rt:24:9
+mul-x : tie.Need-mul-x Inv-loop μ-loop
+mul-x c = search needs
+
+-- src/guess.rt:24:9
+array-write-x : tie.Need-array-write-x Inv-loop μ-loop
+array-write-x c = search needs
+
+-- src/guess.rt:25:9
+add-n : tie.Need-add-n Inv-loop μ-loop
+add-n c = search needs
+
+-- src/guess.rt:23:5
+loop-less : tie.Need-loop-less Inv-loop μ-loop
+loop-less c = search needs
+
+-- src/guess.rt:23:5
+loop-again : tie.Need-loop-again Inv-loop μ-loop
+loop-again c = (search needs, over-more _ _ _ _ _ (c .before .before .before .loop .inv .1) (c .up-to-last .ensures))
+
+-- src/guess.rt:18:1
+returns : tie.Need-returns Inv-loop μ-loop
+unfolding firstOf
+returns c = full _ 16 _ _ _ (c .before .loop .inv .1) (omega arith) refl
+
+pub first-places-spec : {M : Type 1} → statement M
+first-places-spec =
+    tie.close
+    (tie.spec
+    Inv-loop
+    μ-loop
+    loop-holds
+    mul-up-to-last
+    element-copy-out-up-to-last
+    up-to-last-requires
+    mul-x
+    array-write-x
+    add-n
+    loop-less
+    loop-again
+    returns)
