@@ -1,7 +1,8 @@
 # `make` alone lists the targets.
-.PHONY: help test check compare bench format tables staticlib bindings
+.PHONY: help run test check compare bench format tables frames staticlib bindings
 
 help:
+	@echo 'make run       build the program quantize and run it on the recorded frames; it ends with how many there were'
 	@echo 'make test      the gate: format, the Rust comparisons, then every proof, must-fail edit and program from nothing'
 	@echo 'make check     prove what changed since the last time, and run the programs: the quick loop'
 	@echo 'make staticlib the library for C and Rust: target/staticlib/libsns_c.a, with include/lc3_sns.h'
@@ -10,10 +11,21 @@ help:
 	@echo 'make bench     the encoder timed beside the Rust, both in one run'
 	@echo 'make format    lay out every Rattle and antt file'
 	@echo 'make tables    make the recorded tables anew from the Rust source (see tests/tables/record.sh)'
+	@echo 'make frames    make the recorded frames and answers anew from the Rust (see tests/frames/README.md)'
+
+# A line a record, as crates/quantize/src/main.rt says. The last records are damaged on purpose, so that refusals are seen.
+run: kit
+	@mkdir -p target
+	@echo 'proving and building quantize: some minutes the first time, then seconds'
+	@rt check quantize >target/run.log 2>&1 || { tail -n 20 target/run.log; exit 1; }
+	sh tests/run_program.sh quantize <crates/quantize/stdin >target/quantize.txt
+	@tail -n 14 target/quantize.txt
+	@echo 'every line: target/quantize.txt'
 
 test: kit
 	rt fmt --check
 	sh tests/rust_at_hand.sh sh tests/tables/record.sh --check
+	sh tests/rust_at_hand.sh sh tests/frames/record.sh --check
 	sh tests/rust_at_hand.sh $(MAKE) compare
 	sh tests/rust_at_hand.sh sh tests/bindings.sh
 	rt ci
@@ -39,6 +51,9 @@ format: kit
 
 tables: kit
 	sh tests/tables/record.sh
+
+frames: kit
+	sh tests/frames/record.sh
 
 .PHONY: kit
 kit:

@@ -1,0 +1,166 @@
+//! The recorded frames as input of the programs, and what the Rust answers to them as their expected output.
+//! `expect FOLDER` writes FOLDER/NAME/stdin and FOLDER/NAME/stdout for quantize, answers_run and frames_run.
+#[path = "../rust/inputs.rs"]
+mod inputs;
+#[path = "../rust/reference.rs"]
+mod reference;
+
+use inputs::Factors;
+use lc3::decoder::side_info::SnsVq;
+use std::fs::{create_dir_all, write};
+
+/// What `run_quant` answers: low row, high row, shape, gain, sign A, sign B, joint index; and the sixteen factors by their bits.
+#[derive(PartialEq)]
+struct Quantized {
+    numbers: [i64; 7],
+    factors: [u32; 16],
+}
+
+macro_rules! quantized {
+    ($rust:ident, $x:expr) => {{
+        let mut factors = [0.0; 16];
+        let (rows, rest) = $rust::encoder::spectral_noise_shaping::SpectralNoiseShaping::run_quant($x, &mut factors);
+        let [low, high, shape, gain, joint] = [rows.ind_lf, rows.ind_hf, rest.shape_j, rest.gind, rest.index_joint_j].map(|n| n as i64);
+        let (sign_a, sign_b) = (rest.ls_inda as i64, rest.ls_indb as i64);
+        Quantized { numbers: [low, high, shape, gain, sign_a, sign_b, joint], factors: factors.map(f32::to_bits) }
+    }};
+}
+
+struct Frame {
+    rate: usize,
+    ten_ms: bool,
+    /// low row, high row, shape, gain, sign A, sign B, index A, index B
+    fields: Vec<usize>,
+    targets: Factors,
+}
+
+fn frame(line: &str) -> Frame {
+    let columns: Vec<&str> = line.split_whitespace().collect();
+    let number = |n: usize| columns[n].parse().expect("a number");
+    let target = |n: usize| f32::from_bits(u32::from_str_radix(columns[11 + n], 16).expect("an f32's bits"));
+    Frame {
+        rate: number(0),
+        ten_ms: number(1) == 100,
+        fields: (3..11).map(number).collect(),
+        targets: std::array::from_fn(target),
+    }
+}
+
+/// Sign, whole part, point, six places; the larger of two as near.
+fn decimal(x: f32) -> String {
+    let millionths = (x.abs() as f64 * 1e6 + 0.5).floor() as u64;
+    let sign = if x < 0.0 { "-" } else { "" };
+    format!("{sign}{}.{:06}", millionths / 1_000_000, millionths % 1_000_000)
+}
+
+fn bits(x: f32) -> String {
+    format!("{:08x}", x.to_bits())
+}
+
+/// Indices A and B of a joint index: how the Rust's own stage 2 put them together, taken apart.
+fn indices(shape: i64, joint: i64) -> (i64, i64) {
+    match shape {
+        0 => (joint % 2390004, (joint / 2390004 - 2) / 2),
+        1 => (joint % 2390004, 0),
+        2 => (joint, 0),
+        _ => ((joint - 15158272) / 2, 0),
+    }
+}
+
+struct Line {
+    text: String,
+    refused: bool,
+    followed: bool,
+}
+
+/// The Rust takes any float. The limit, and what is not finite, are the port's: refused with the first place that is out.
+/// `lc3_place_10` is the Rust with the one rule of document 01 that differs (record.sh); where the two differ it is taken.
+fn line(x: &Factors, show: fn(f32) -> String) -> Line {
+    if let Some(place) = x.iter().position(|v| !(v.abs() <= 64.0)) {
+        let number = if x[place].is_finite() { 8 } else { 7 };
+        return Line { text: format!("refused {number} at {place}"), refused: true, followed: true };
+    }
+    let (rust, q) = (quantized!(lc3, x), quantized!(lc3_place_10, x));
+    let (a, b) = indices(q.numbers[2], q.numbers[6]);
+    let numbers = q.numbers.map(|n| n.to_string()).join(" ");
+    let factors = q.factors.map(|f| show(f32::from_bits(f))).join(" ");
+    Line { text: format!("{numbers} {a} {b} | {factors}"), refused: false, followed: rust == q }
+}
+
+/// Records, and three bytes of one more.
+fn records(inputs: &[Factors]) -> Vec<u8> {
+    let mut bytes: Vec<u8> = inputs.iter().flatten().flat_map(|v| v.to_le_bytes()).collect();
+    bytes.extend([1, 2, 3]);
+    bytes
+}
+
+/// A refused record for each reason, and the last factor taken on either side.
+fn edges() -> Vec<Factors> {
+    let put = |place: usize, x: u32| {
+        let mut f = [0.25; 16];
+        f[place] = f32::from_bits(x);
+        f
+    };
+    let all = [0x7fc0_0000, 0xffff_ffff, 0x7f80_0000, 0xff80_0000, 0x4280_0000, 0xc280_0000, 0x4280_0001, 0xc280_0001];
+    all.iter().enumerate().map(|(n, x)| put(15 - n, *x)).collect()
+}
+
+fn save(folder: &str, name: &str, stdin: Vec<u8>, stdout: String) {
+    let to = format!("{folder}/{name}");
+    create_dir_all(&to).expect("the folder");
+    write(format!("{to}/stdin"), stdin).expect("stdin");
+    write(format!("{to}/stdout"), stdout).expect("stdout");
+}
+
+/// Saves records and their lines, and says how often the Rust is not followed.
+fn quantize(folder: &str, name: &str, inputs: &[Factors], show: fn(f32) -> String) {
+    let lines: Vec<Line> = inputs.iter().map(|x| line(x, show)).collect();
+    let refused = lines.iter().filter(|l| l.refused).count();
+    let not_followed = lines.iter().filter(|l| !l.followed).count();
+    println!("{name}: {} records, {refused} refused, {not_followed} where the Rust is not followed", lines.len());
+    let text: String = lines.iter().map(|l| format!("{}\n", l.text)).collect();
+    save(folder, name, records(inputs), format!("{text}cut\n{} records, {refused} refused, 1 cut\n", lines.len()));
+}
+
+/// The decoder on each frame's own fields: the sum of the bits of all band values, modulo 2^32.
+fn decoded(frames: &[Frame]) -> (Vec<u8>, String) {
+    let (mut stdin, mut sum) = (Vec::<u8>::new(), 0u32);
+    for f in frames {
+        let v = &f.fields;
+        let fields = SnsVq {
+            ind_lf: v[0],
+            ind_hf: v[1],
+            ls_inda: v[4],
+            ls_indb: v[5],
+            idx_a: v[6],
+            idx_b: v[7],
+            submode_lsb: (v[2] % 2) as u8,
+            submode_msb: (v[2] / 2) as u8,
+            g_ind: v[3],
+        };
+        let bands = reference::bands(f.rate, f.ten_ms, &fields);
+        sum = bands.iter().fold(sum, |s, x| s.wrapping_add(x.to_bits()));
+        for n in std::iter::once(&bands.len()).chain(v.iter()) {
+            stdin.extend((*n as u32).to_le_bytes());
+        }
+    }
+    let n = frames.len();
+    (stdin, format!("{n} accepted of {n}, band values {sum:08x}\n"))
+}
+
+fn main() {
+    let folder = std::env::args().nth(1).expect("a folder");
+    let text = include_str!("frames.txt");
+    let frames: Vec<Frame> = text.lines().map(frame).collect();
+
+    let targets = frames.iter().map(|f| f.targets);
+    quantize(&folder, "quantize", &targets.chain(edges()).collect::<Vec<_>>(), decimal);
+
+    let corners = inputs::CORNERS.iter().map(|(_, x)| x.map(f32::from_bits));
+    let drawn = inputs::ALL.iter().flat_map(|d| d.inputs(150));
+    quantize(&folder, "answers_run", &corners.chain(drawn).collect::<Vec<_>>(), bits);
+
+    let (stdin, stdout) = decoded(&frames);
+    print!("frames_run: {stdout}");
+    save(&folder, "frames_run", stdin, stdout);
+}
