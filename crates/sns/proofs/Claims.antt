@@ -19,7 +19,7 @@ use Rattle.sns.specs.Interpolate.{interpolateAnswer}
 use Rattle.sns.specs.Shape.{shapeAnswer}
 use Rattle.sns.specs.Unpack.{unpackQuestions, unpackAnswer}
 use Rattle.sns.specs.Pack.{packQuestions, packedAs}
-use Rattle.sns.specs.Claims.{CheckPinned, DecodePinned, PulsesPinned, InterpolatePinned, ShapePinned, UnpackPinned, PackPinned, Taken, UnpackTakes, PackTakes, UnpackThenPack, PackThenUnpack}
+use Rattle.sns.specs.Claims.{CheckPinned, DecodePinned, PulsesPinned, InterpolatePinned, ShapePinned, UnpackPinned, PackPinned, UnpackTaken, UnpackTakes, PackTakes, UnpackThenPack, PackThenUnpack}
 use Rattle.sns.proofs.Answers.{done}
 use Rattle.sns.proofs.Pairs.{small}
 use Rattle.sns.proofs.UnpackAnswers as unpack
@@ -55,10 +55,10 @@ pub unpack-takes : UnpackTakes
 unfolding unpackQuestions
 unpack-takes n k s i len = (there, back)
   where
-    there : Taken n k s i len → answerOf (unpackQuestions n k s i len) ≡ Done
+    there : UnpackTaken n k s i len → answerOf (unpackQuestions n k s i len) ≡ Done
     there t = sym (unpack.taken n k s i len (t .pair) (t .long) (t .sign-below) (t .index-below))
 
-    back : answerOf (unpackQuestions n k s i len) ≡ Done → Taken n k s i len
+    back : answerOf (unpackQuestions n k s i len) ≡ Done → UnpackTaken n k s i len
     back e =
         let a = done 10 0 _ _ e in
         let b = done 9 0 _ _ (a .1) in

@@ -118,14 +118,14 @@ ShapeTakes =
     × (shapeAnswer rate ten count gains lines ≡ Done → ShapeTaken rate ten count gains lines)
 
 -- what unpack takes: one of the four pairs, a buffer of its dimension, the sign 0 or 1, an index below the size
-pub record Taken (n k sign index len : ℕ) : Type 0 where
+pub record UnpackTaken (n k sign index len : ℕ) : Type 0 where
   pub pair : paired n k ≡ true
   pub long : len ≡ n
   pub sign-below : sign < 2
   pub index-below : index < sizeOf n k
 
 abbrev pub UnpackTakes : Type 0
-UnpackTakes = (n k sign index len : ℕ) → (Taken n k sign index len → unpackAnswer n k sign index len ≡ Done) × (unpackAnswer n k sign index len ≡ Done → Taken n k sign index len)
+UnpackTakes = (n k sign index len : ℕ) → (UnpackTaken n k sign index len → unpackAnswer n k sign index len ≡ Done) × (unpackAnswer n k sign index len ≡ Done → UnpackTaken n k sign index len)
 
 -- pack takes nothing but the vectors of the four pairs
 abbrev pub PackTakes : Type 0
