@@ -11,3 +11,4 @@ pub mod Taken
 pub mod Places
 pub mod Claims
 pub mod EncodeClaims
+pub mod Demands

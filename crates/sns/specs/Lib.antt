@@ -10,3 +10,4 @@ pub mod Unpack
 pub mod Pack
 pub mod Claims
 pub mod EncodeClaims
+pub mod Demands

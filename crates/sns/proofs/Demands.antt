@@ -1,0 +1,46 @@
+-- The demands of specs/Demands.antt, each theorem from the file that shows it. Assumes nothing.
+use Rattle.numbering.proofs.Claims.{claim}
+use Rattle.synthesis.proofs.Claims.{within-64}
+use Rattle.sns.specs.Demands.{Answered, Taken, Numbered, Unbeaten}
+use Rattle.sns.proofs.Answers as answers
+use Rattle.sns.proofs.Claims as claims
+use Rattle.sns.proofs.Taken as taken
+use Rattle.sns.proofs.EncodeClaims as encode
+
+pub answered : Answered
+answered =
+    record {
+      refused-exactly = answers.refused-exactly;
+      done-exactly = answers.done-exactly;
+      check-pinned = claims.check-pinned;
+      encode-pinned = encode.encode-pinned;
+      decode-pinned = claims.decode-pinned;
+      pulses-pinned = claims.pulses-pinned;
+      interpolate-pinned = claims.interpolate-pinned;
+      shape-pinned = claims.shape-pinned;
+      pack-pinned = claims.pack-pinned;
+      unpack-pinned = claims.unpack-pinned;
+    }
+
+pub takes : Taken
+takes =
+    record {
+      encode-takes = encode.encode-takes;
+      decode-takes = taken.decode-takes;
+      interpolate-takes = taken.interpolate-takes;
+      shape-takes = taken.shape-takes;
+      unpack-takes = claims.unpack-takes;
+      pack-takes = claims.pack-takes;
+    }
+
+pub numbered : Numbered
+numbered =
+    record {
+      any-pair = claim;
+      unpack-then-pack = claims.unpack-pack;
+      pack-then-unpack = claims.pack-unpack;
+      decoded-within = within-64;
+    }
+
+pub unbeaten : Unbeaten
+unbeaten = record { none-beats = encode.none-beats; answered = encode.all-answered; decodes-again = encode.decodes-again }

@@ -1,0 +1,42 @@
+-- The demands on the public calls, each a record of theorems. The proofs are in proofs/Demands.antt; the contracts of crate sns say
+-- that the code does what these definitions say, for every input, with nothing asked of the caller. Definitions only.
+use Rattle.numbering.specs.Claims as numbering
+use Rattle.synthesis.specs.Claims as synthesis
+use Rattle.sns.specs.Claims as claims
+use Rattle.sns.specs.EncodeClaims as encode
+
+-- 1. Any numbers and any buffers get an answer. A call is refused with the first of its questions that is given, always then and only
+-- then, and done exactly when none is; two results that a call's statement allows are equal, and so are the buffers.
+pub record Answered : Type 0 where
+  pub refused-exactly : claims.RefusedExactly
+  pub done-exactly : claims.DoneExactly
+  pub check-pinned : claims.CheckPinned
+  pub encode-pinned : encode.EncodePinned
+  pub decode-pinned : claims.DecodePinned
+  pub pulses-pinned : claims.PulsesPinned
+  pub interpolate-pinned : claims.InterpolatePinned
+  pub shape-pinned : claims.ShapePinned
+  pub pack-pinned : claims.PackPinned
+  pub unpack-pinned : claims.UnpackPinned
+
+-- and what each call takes, both ways
+pub record Taken : Type 0 where
+  pub encode-takes : encode.EncodeTakes
+  pub decode-takes : claims.DecodeTakes
+  pub interpolate-takes : claims.InterpolateTakes
+  pub shape-takes : claims.ShapeTakes
+  pub unpack-takes : claims.UnpackTakes
+  pub pack-takes : claims.PackTakes
+
+-- 2. Numbering and its reverse undo each other for the four pairs, through the public calls; all decoded factors lie within 64.
+pub record Numbered : Type 0 where
+  pub any-pair : numbering.Claim
+  pub unpack-then-pack : claims.UnpackThenPack
+  pub pack-then-unpack : claims.PackThenUnpack
+  pub decoded-within : synthesis.Within64
+
+-- 3. No scanned choice beats the answer; decoded again it gives the winner's very pulses; it depends on the sixteen factors alone.
+pub record Unbeaten : Type 0 where
+  pub none-beats : encode.NoneBeats
+  pub answered : encode.AllAnswered
+  pub decodes-again : encode.DecodesAgain
