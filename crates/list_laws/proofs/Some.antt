@@ -1,4 +1,4 @@
--- A test that passes somewhere passes at a number that can be named; one that passes nowhere fails at each. Assumes nothing.
+-- A test that passes nowhere fails at each number, as a loop finds it, and one test or the other. Assumes nothing.
 use mathlib.Core.Path.{_≡_, refl, sym, ap, _∙_, subst}
 use mathlib.Core.Logic.{inl, inr}
 use mathlib.Core.Bool.{Bool, true, false, _||_}
@@ -7,23 +7,6 @@ use native.Mathlib.Nat.{le-refl, le-trans, le-suc, le-of-suc-le-suc, not-suc-le-
 use native.Mathlib.Numerals.{add-one}
 use lib.Dec.{T}
 use Rattle.list_laws.specs.Some.{someBelow}
-
-pub record Found (n : ℕ) (f : ℕ → Bool) : Type 0 where
-  pub place : ℕ
-  pub inside : place < n
-  pub passes : f place ≡ true
-
-pub some-where : (n : ℕ) (f : ℕ → Bool) → someBelow n f ≡ true → Found n f
-unfolding someBelow
-some-where zero f e = absurd (subst T (sym e) tt)
-some-where (suc n) f e = go (some-where n f) (f n) refl e
-  where
-    wider : Found n f → Found (suc n) f
-    wider w = record { place = w .place; inside = le-trans (w .inside) (le-suc n); passes = w .passes }
-
-    go : (someBelow n f ≡ true → Found n f) → (b : Bool) → f n ≡ b → b || someBelow n f ≡ true → Found (suc n) f
-    go rest true p q = record { place = n; inside = le-refl (suc n); passes = p }
-    go rest false p q = wider (rest q)
 
 pub some-none : (n : ℕ) (f : ℕ → Bool) → someBelow n f ≡ false → (k : ℕ) → k < n → f k ≡ false
 unfolding someBelow

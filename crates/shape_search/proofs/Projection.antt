@@ -18,7 +18,7 @@ use Rattle.float_laws.proofs.Logic.{yes}
 use Rattle.list_laws.specs.Some.{someBelow}
 use Rattle.list_laws.proofs.Some.{some-none, some-or}
 use Rattle.pulse_search.specs.declared.SearchRecord.{SearchRecord}
-use Rattle.pulse_search.specs.Pulse.{Search, start, totalTo}
+use Rattle.pulse_search.specs.Pulse.{start, totalTo}
 use Rattle.shape_search.specs.Projection.{five, seven, factorOf, productAt, projectedOf, termsOf, joined, none, joinedTo, someNotFinite, someSeven, totalOverSix, zeros, unless, projection, Absolutes, AllBelowSeven, begunOf}
 use Rattle.shape_search.specs.declared.Start.{Start}
 
@@ -104,12 +104,6 @@ pub joined-some : (r : SearchRecord) (w : ℕ) (x : Float) → (w ≡ 0 → ⊥)
 unfolding joined
 joined-some r zero x h = absurd (h refl)
 joined-some r (suc w) x h = refl
-
-pub part-pulses : (y : List ℕ) (r : SearchRecord) (s : Search) → start y r ≡ s → y ≡ s .pulses
-part-pulses y r s e = ap (λ (t : Search). t .pulses) e
-
-pub part-handed : (y : List ℕ) (r : SearchRecord) (s : Search) → start y r ≡ s → r ≡ s .handed
-part-handed y r s e = ap (λ (t : Search). t .handed) e
 
 -- ---- the code's tests, in its words
 module _ (a : List Float) (f : Float) (e : f ≡ factorOf a) where

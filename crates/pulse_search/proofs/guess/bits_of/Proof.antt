@@ -17,15 +17,12 @@ le-no-nan (fin s m e) nan h = h
 le-no-nan z (inf s) h = tt
 le-no-nan z (fin s m e) h = tt
 
--- src/guess.rt:61:16
 float-to-bits-result : tie.Need-float-to-bits-result
 float-to-bits-result c = le-no-nan (ofBits binary32 0) _ (subst T (sym (c .if1 .taken)) tt)
 
--- src/guess.rt:61:9
 returns : tie.Need-returns
 returns c = search needs
 
--- src/guess.rt:59:1
 returns-2 : tie.Need-returns-2
 returns-2 c = search needs
 

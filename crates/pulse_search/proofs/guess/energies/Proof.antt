@@ -17,39 +17,30 @@ Inv-loop y energy e₀ n₀ e n = (n ≤ 16) × (e ≡ over (λ n. add binary32 
 abbrev μ-loop : tie.MeasureT-loop
 μ-loop y energy e₀ n₀ e n = 16 - n
 
--- src/guess.rt:50:5
 loop-holds : tie.Need-loop-holds Inv-loop μ-loop
 loop-holds c = (search needs, over-none _ _)
 
--- src/guess.rt:51:22
 element-copy-out-pulses : tie.Need-element-copy-out-pulses Inv-loop μ-loop
 element-copy-out-pulses c = search needs
 
--- src/guess.rt:51:22
 int-to-float-pulses : tie.Need-int-to-float-pulses Inv-loop μ-loop
 int-to-float-pulses c = search needs
 
--- src/guess.rt:52:9
 mul-e : tie.Need-mul-e Inv-loop μ-loop
 mul-e c = search needs
 
--- src/guess.rt:52:9
 array-write-e : tie.Need-array-write-e Inv-loop μ-loop
 array-write-e c = search needs
 
--- src/guess.rt:53:9
 add-n : tie.Need-add-n Inv-loop μ-loop
 add-n c = search needs
 
--- src/guess.rt:50:5
 loop-less : tie.Need-loop-less Inv-loop μ-loop
 loop-less c = search needs
 
--- src/guess.rt:50:5
 loop-again : tie.Need-loop-again Inv-loop μ-loop
 loop-again c = (search needs, over-more _ _ _ _ _ (c .before .before .before .loop .inv .1) refl)
 
--- src/guess.rt:45:1
 returns : tie.Need-returns Inv-loop μ-loop
 unfolding energiesOf
 returns c = full _ 16 _ _ _ (c .before .loop .inv .1) (omega arith) refl

@@ -18,43 +18,33 @@ Inv-loop abs-x last x₀ n₀ x n = (n ≤ 16) × (x ≡ over (λ n. upToLast (l
 abbrev μ-loop : tie.MeasureT-loop
 μ-loop abs-x last x₀ n₀ x n = 16 - n
 
--- src/guess.rt:23:5
 loop-holds : tie.Need-loop-holds Inv-loop μ-loop
 loop-holds c = (search needs, over-none _ _)
 
--- src/guess.rt:24:27
 mul-up-to-last : tie.Need-mul-up-to-last Inv-loop μ-loop
 mul-up-to-last c = search needs
 
--- src/guess.rt:24:27
 element-copy-out-up-to-last : tie.Need-element-copy-out-up-to-last Inv-loop μ-loop
 element-copy-out-up-to-last c = search needs
 
--- src/guess.rt:24:16
 up-to-last-requires : tie.Need-up-to-last-requires Inv-loop μ-loop
 up-to-last-requires c κs = search needs
 
--- src/guess.rt:24:9
 mul-x : tie.Need-mul-x Inv-loop μ-loop
 mul-x c = search needs
 
--- src/guess.rt:24:9
 array-write-x : tie.Need-array-write-x Inv-loop μ-loop
 array-write-x c = search needs
 
--- src/guess.rt:25:9
 add-n : tie.Need-add-n Inv-loop μ-loop
 add-n c = search needs
 
--- src/guess.rt:23:5
 loop-less : tie.Need-loop-less Inv-loop μ-loop
 loop-less c = search needs
 
--- src/guess.rt:23:5
 loop-again : tie.Need-loop-again Inv-loop μ-loop
 loop-again c = (search needs, over-more _ _ _ _ _ (c .before .before .before .loop .inv .1) (c .up-to-last .ensures))
 
--- src/guess.rt:18:1
 returns : tie.Need-returns Inv-loop μ-loop
 unfolding firstOf
 returns c = full _ 16 _ _ _ (c .before .loop .inv .1) (omega arith) refl

@@ -18,39 +18,30 @@ Inv-loop x correlation c₀ n₀ c n = (n ≤ 16) × (c ≡ over (λ n. square (
 abbrev μ-loop : tie.MeasureT-loop
 μ-loop x correlation c₀ n₀ c n = 16 - n
 
--- src/guess.rt:36:5
 loop-holds : tie.Need-loop-holds Inv-loop μ-loop
 loop-holds c = (search needs, over-none _ _)
 
--- src/guess.rt:37:31
 mul-s : tie.Need-mul-s Inv-loop μ-loop
 mul-s c = search needs
 
--- src/guess.rt:37:31
 element-copy-out-s : tie.Need-element-copy-out-s Inv-loop μ-loop
 element-copy-out-s c = search needs
 
--- src/guess.rt:38:9
 mul-c : tie.Need-mul-c Inv-loop μ-loop
 mul-c c = search needs
 
--- src/guess.rt:38:9
 array-write-c : tie.Need-array-write-c Inv-loop μ-loop
 array-write-c c = search needs
 
--- src/guess.rt:39:9
 add-n : tie.Need-add-n Inv-loop μ-loop
 add-n c = search needs
 
--- src/guess.rt:36:5
 loop-less : tie.Need-loop-less Inv-loop μ-loop
 loop-less c = search needs
 
--- src/guess.rt:36:5
 loop-again : tie.Need-loop-again Inv-loop μ-loop
 loop-again c = (search needs, over-more _ _ _ _ _ (c .before .before .loop .inv .1) refl)
 
--- src/guess.rt:31:1
 returns : tie.Need-returns Inv-loop μ-loop
 unfolding squaresOf
 returns c = full _ 16 _ _ _ (c .before .loop .inv .1) (omega arith) refl

@@ -15,56 +15,43 @@ Inv-loop c e g cg eg count₀ n₀ count n = (n ≤ 16) × (count ≡ countTo (u
 abbrev μ-loop : tie.MeasureT-loop
 μ-loop c e g cg eg count₀ n₀ count n = 16 - n
 
--- src/guess.rt:94:14
 mul-cg : tie.Need-mul-cg Inv-loop μ-loop
 mul-cg c = search needs
 
--- src/guess.rt:94:14
 element-copy-out-cg : tie.Need-element-copy-out-cg Inv-loop μ-loop
 element-copy-out-cg c = search needs
 
--- src/guess.rt:95:14
 mul-eg : tie.Need-mul-eg Inv-loop μ-loop
 mul-eg c = search needs
 
--- src/guess.rt:95:14
 element-copy-out-eg : tie.Need-element-copy-out-eg Inv-loop μ-loop
 element-copy-out-eg c = search needs
 
--- src/guess.rt:98:5
 loop-holds : tie.Need-loop-holds Inv-loop μ-loop
 unfolding countTo
 loop-holds c = (search needs, refl, search needs)
 
--- src/guess.rt:99:14
 mul-if1 : tie.Need-mul-if1 Inv-loop μ-loop
 mul-if1 c = search needs
 
--- src/guess.rt:99:14
 element-copy-out-if1 : tie.Need-element-copy-out-if1 Inv-loop μ-loop
 element-copy-out-if1 c = search needs
 
--- src/guess.rt:99:31
 mul-if1-2 : tie.Need-mul-if1-2 Inv-loop μ-loop
 mul-if1-2 c = search needs
 
--- src/guess.rt:99:31
 element-copy-out-if1-2 : tie.Need-element-copy-out-if1-2 Inv-loop μ-loop
 element-copy-out-if1-2 c = search needs
 
--- src/guess.rt:100:13
 add-count : tie.Need-add-count Inv-loop μ-loop
 add-count c = search needs
 
--- src/guess.rt:102:9
 add-n : tie.Need-add-n Inv-loop μ-loop
 add-n c = search needs
 
--- src/guess.rt:98:5
 loop-less : tie.Need-loop-less Inv-loop μ-loop
 loop-less c = search needs
 
--- src/guess.rt:98:5
 loop-again : tie.Need-loop-again Inv-loop μ-loop
 loop-again c =
     let l = c .before .before .before .before .loop in
@@ -73,7 +60,6 @@ loop-again c =
     (λ w. rw (w .1) (search needs, count-no _ _ _ (l .inv .1) (unfold unbeatenBy in w .0 .left), omega arith))
     (c .if1 .came)
 
--- src/guess.rt:90:1
 returns : tie.Need-returns Inv-loop μ-loop
 returns c =
     let e : c .before .loop .n ≡ 16 = omega arith in

@@ -5,11 +5,9 @@ use Rattle.pulse_search.proofs.Takes.{kept, left-out}
 use Rattle.pulse_search.proofs.guess.up_to_last.Statement.{statement}
 use Rattle.pulse_search.proofs.guess.up_to_last.Tie as tie
 
--- src/guess.rt:12:9
 returns : tie.Need-returns
 returns c = kept _ _ (le-leb _ _ (c .if1 .taken))
 
--- src/guess.rt:8:1
 returns-2 : tie.Need-returns-2
 returns-2 c = left-out _ _ (lt-leb _ _ (c .if1 .left))
 
