@@ -1,5 +1,5 @@
 /*
- * LC3 spectral noise shaping: decoder synthesis, interpolation and shaping, with the numbering of pulse vectors.
+ * LC3 spectral noise shaping: the encoder's quantizer, the decoder's synthesis, interpolation and shaping, and the numbering of pulse vectors.
  *
  * Every call takes any numbers and any floats in buffers of any length, and always returns. Bad input is refused: `number` is then not 0,
  * every lent buffer holds what it held, and the answer's other fields are 0, but for `place`, which tells where, and for the offending value
