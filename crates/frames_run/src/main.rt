@@ -4,8 +4,8 @@
 // decoder gives as well (tests/frames).
 use libc::STDIN_FILENO;
 use libc::STDOUT_FILENO;
-use records::input;
-use records::run;
+use record_text::count::one_more;
+use record_text::input;
 use sns::Answer;
 use sns::fields::Fields;
 
@@ -57,15 +57,15 @@ fn frame(f: Fields, band_count: u32, s: Seen) -> Seen {
     match sns::decode::decode(f, &mut factors) {
         Answer::Done => {
             Seen {
-                frames: run::one_more(s.frames),
-                accepted: run::one_more(s.accepted),
+                frames: one_more(s.frames),
+                accepted: one_more(s.accepted),
                 sum: bands_added(s.sum, &factors, band_count),
                 more: s.more,
             }
         }
         Answer::No(_, _) => {
             Seen {
-                frames: run::one_more(s.frames),
+                frames: one_more(s.frames),
                 accepted: s.accepted,
                 sum: s.sum,
                 more: s.more,

@@ -1,6 +1,6 @@
 // One record of sixteen factors: quantized, and a line of text for it.
-use crate::input;
-use crate::text;
+use record_text::input;
+use record_text::text;
 use sns::Answer;
 use sns::encode::Encoded;
 use sns::fields::Fields;

@@ -1,7 +1,8 @@
 // Every record until the input ends, a line each, and the summary.
 use crate::frames;
-use crate::text;
 use libc::STDIN_FILENO;
+use record_text::count::one_more;
+use record_text::text;
 ghost use Prim.Native.Nat.{_≤_};
 
 // How many records were met and how many were refused, whether the last was cut short, and whether more may come.
@@ -10,14 +11,6 @@ pub struct Tally {
     pub refused: u64,
     pub cut: bool,
     pub more: bool,
-}
-
-// One more. No input is long enough to reach the end of an u64.
-pub fn one_more(count: u64) -> u64 {
-    if count == u64::MAX {
-        return count;
-    }
-    count + 1
 }
 
 // A block's records, one after another. What is left of a record is cut.
