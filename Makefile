@@ -7,8 +7,8 @@ help:
 	@echo 'make check     prove what changed since the last time, and run the programs: the quick loop'
 	@echo 'make staticlib the library for C and Rust: target/staticlib/libsns_c.a, with include/lc3_sns.h'
 	@echo 'make bindings  the library called from C and from bindings/rust (see tests/bindings.sh)'
-	@echo 'make compare   the port beside the Rust, bit for bit: 1,200,006 inputs of the quantizer, and stage 1 alone'
-	@echo 'make bench     the encoder timed beside the Rust, both in one run'
+	@echo 'make compare   the port beside the Rust, bit for bit: encoder, numbering, decoder, shaping; and refusals by the table'
+	@echo 'make bench     encode, pack and unpack timed beside the Rust, both in one run'
 	@echo 'make format    lay out every Rattle and antt file'
 	@echo 'make tables    make the recorded tables anew from the Rust source (see tests/tables/record.sh)'
 	@echo 'make frames    make the recorded frames and answers anew from the Rust (see tests/frames/README.md)'
@@ -35,10 +35,11 @@ check: kit
 
 compare: kit
 	tests/rust/beside.sh stage1_bench tests/rust/stage1.rs
-	tests/rust/beside.sh sns_bench tests/rust/quant.rs
+	tests/rust/beside.sh sns_c tests/rust/quant.rs tests/rust/numbering.rs tests/rust/decoder.rs tests/rust/refusals.rs
 
 bench: kit
-	bench/run.sh sns_bench bench/quant.rs
+	bench/run.sh sns_c bench/quant.rs
+	tests/rust/beside.sh sns_c bench/numbering.rs
 
 staticlib: kit
 	rt staticlib sns_c

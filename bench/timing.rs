@@ -1,6 +1,4 @@
 //! Two functions timed on the same inputs: processor time, rounds interleaved, the best and the median of the rounds.
-use crate::calls::{bits, Answer, Call};
-use crate::inputs::{timed, Factors};
 use std::hint::black_box;
 
 #[repr(C)]
@@ -22,20 +20,18 @@ fn processor_time() -> f64 {
 }
 
 /// Nanoseconds a call.
-fn round(call: Call, inputs: &[Factors]) -> f64 {
-    let mut answer = Answer::default();
+fn round<T, A>(call: fn(&T) -> A, inputs: &[T]) -> f64 {
     let start = processor_time();
     for x in inputs {
-        call(black_box(x), &mut answer);
-        black_box(&answer);
+        black_box(call(black_box(x)));
     }
     (processor_time() - start) / inputs.len() as f64
 }
 
-/// Prints both times in nanoseconds a call, and the ratio of ours to the Rust's.
-fn compare(what: &str, inputs: &[Factors], ours: Call, rust: Call) {
+/// Prints both times in nanoseconds a call, and the ratio of ours to the Rust's, after every answer was compared.
+fn compare<T, A: PartialEq>(what: &str, inputs: &[T], ours: fn(&T) -> A, rust: fn(&T) -> A) {
     const ROUNDS: usize = 21;
-    let differ = inputs.iter().filter(|x| bits(ours, x) != bits(rust, x)).count();
+    let differ = inputs.iter().filter(|x| ours(x) != rust(x)).count();
     assert_eq!(differ, 0, "{what}: {differ} of {} answers differ", inputs.len());
     let (mut a, mut b): (Vec<f64>, Vec<f64>) = (0..ROUNDS).map(|_| (round(ours, inputs), round(rust, inputs))).unzip();
     a.sort_by(f64::total_cmp);
@@ -47,20 +43,14 @@ fn compare(what: &str, inputs: &[Factors], ours: Call, rust: Call) {
     );
 }
 
-/// What a bench does. `count ours`, `count rust`, `count none`: 2000 calls of one or of neither, for an instruction counter.
-/// Otherwise the three scales.
-pub fn main(ours: Call, rust: Call) {
+/// What a bench does with its lists of inputs. `count ours`, `count rust`, `count none`: 2000 calls of one or of neither on
+/// the first list, for an instruction counter. Otherwise every list is timed.
+pub fn main<T, A: PartialEq>(lists: &[(String, Vec<T>)], ours: fn(&T) -> A, rust: fn(&T) -> A) {
     let words: Vec<String> = std::env::args().collect();
-    if let [_, _, which] = &words[..] {
-        let call = match which.as_str() {
-            "ours" => ours,
-            "rust" => rust,
-            _ => |_: &Factors, _: &mut Answer| (),
-        };
-        round(call, &timed(64)[..2000]);
-        return;
-    }
-    for scale in [64, 4, 1] {
-        compare(&format!("scale {scale}"), &timed(scale), ours, rust);
+    match words.get(2).map(String::as_str) {
+        Some("ours") => drop(round(ours, &lists[0].1[..2000])),
+        Some("rust") => drop(round(rust, &lists[0].1[..2000])),
+        Some(_) => (),
+        None => lists.iter().for_each(|(what, inputs)| compare(what, inputs, ours, rust)),
     }
 }

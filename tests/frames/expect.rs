@@ -7,24 +7,8 @@ mod reference;
 
 use inputs::Factors;
 use lc3::decoder::side_info::SnsVq;
+use reference::{run_quant, run_quant_place_10};
 use std::fs::{create_dir_all, write};
-
-/// What `run_quant` answers: low row, high row, shape, gain, sign A, sign B, joint index; and the sixteen factors by their bits.
-#[derive(PartialEq)]
-struct Quantized {
-    numbers: [i64; 7],
-    factors: [u32; 16],
-}
-
-macro_rules! quantized {
-    ($rust:ident, $x:expr) => {{
-        let mut factors = [0.0; 16];
-        let (rows, rest) = $rust::encoder::spectral_noise_shaping::SpectralNoiseShaping::run_quant($x, &mut factors);
-        let [low, high, shape, gain, joint] = [rows.ind_lf, rows.ind_hf, rest.shape_j, rest.gind, rest.index_joint_j].map(|n| n as i64);
-        let (sign_a, sign_b) = (rest.ls_inda as i64, rest.ls_indb as i64);
-        Quantized { numbers: [low, high, shape, gain, sign_a, sign_b, joint], factors: factors.map(f32::to_bits) }
-    }};
-}
 
 struct Frame {
     rate: usize,
@@ -57,16 +41,6 @@ fn bits(x: f32) -> String {
     format!("{:08x}", x.to_bits())
 }
 
-/// Indices A and B of a joint index: how the Rust's own stage 2 put them together, taken apart.
-fn indices(shape: i64, joint: i64) -> (i64, i64) {
-    match shape {
-        0 => (joint % 2390004, (joint / 2390004 - 2) / 2),
-        1 => (joint % 2390004, 0),
-        2 => (joint, 0),
-        _ => ((joint - 15158272) / 2, 0),
-    }
-}
-
 struct Line {
     text: String,
     refused: bool,
@@ -74,17 +48,15 @@ struct Line {
 }
 
 /// The Rust takes any float. The limit, and what is not finite, are the port's: refused with the first place that is out.
-/// `lc3_place_10` is the Rust with the one rule of document 01 that differs (record.sh); where the two differ it is taken.
+/// `lc3_place_10` is the Rust with the one rule of document 01 that differs (../rust/build.sh); where the two differ it is taken.
 fn line(x: &Factors, show: fn(f32) -> String) -> Line {
     if let Some(place) = x.iter().position(|v| !(v.abs() <= 64.0)) {
         let number = if x[place].is_finite() { 8 } else { 7 };
         return Line { text: format!("refused {number} at {place}"), refused: true, followed: true };
     }
-    let (rust, q) = (quantized!(lc3, x), quantized!(lc3_place_10, x));
-    let (a, b) = indices(q.numbers[2], q.numbers[6]);
-    let numbers = q.numbers.map(|n| n.to_string()).join(" ");
-    let factors = q.factors.map(|f| show(f32::from_bits(f))).join(" ");
-    Line { text: format!("{numbers} {a} {b} | {factors}"), refused: false, followed: rust == q }
+    let (rust, q) = (run_quant(x), run_quant_place_10(x));
+    let (numbers, factors) = (q.numbers.map(|n| n.to_string()).join(" "), q.factors.map(show).join(" "));
+    Line { text: format!("{numbers} | {factors}"), refused: false, followed: rust == q }
 }
 
 /// Records, and three bytes of one more.

@@ -1,12 +1,23 @@
 #!/bin/sh
-# tests/rust/beside.sh CRATE DRIVER.rs [WORDS..]: builds the Rust, the native archive of CRATE and the driver that links
-# both, all in target/rust, and runs the driver with WORDS.
+# tests/rust/beside.sh CRATE DRIVER.rs..: builds the Rust, the native archive of CRATE and each driver, which links both, all in
+# target/rust, and runs the drivers one after another. A driver of `sns_c` calls the port through bindings/rust.
 set -eu
 cd "$(dirname "$0")/../.."
-crate=$1 driver=$2
-shift 2
+crate=$1
+shift
+# An answer of 44 bytes, the encoder's, does not cross into an archive that native.sh made for another processor.
+if [ "$crate" = sns_c ] && [ "$(uname -m)" != x86_64 ]; then
+    echo "$*: skipped. The public archive is x86-64 code, and this processor ($(uname -m)) can't run it."
+    exit 0
+fi
 tests/rust/build.sh
 bench/native.sh "$crate" "target/rust/lib$crate.a"
-program=target/rust/$(echo "${driver%.rs}" | tr / -)
-rustc --edition 2021 -C opt-level=3 -L target/rust --extern lc3=target/rust/liblc3.rlib -l "static=$crate" -o "$program" "$driver"
-exec "$program" "$@"
+flags='--edition 2021 -C opt-level=3 -L target/rust'
+# shellcheck disable=SC2086
+rustc $flags --crate-type rlib --crate-name lc3_sns --out-dir target/rust bindings/rust/src/lib.rs
+for driver in "$@"; do
+    program=target/rust/$(echo "${driver%.rs}" | tr / -)
+    # shellcheck disable=SC2086
+    rustc $flags --extern lc3 --extern lc3_place_10 --extern lc3_sns -l "static=$crate" -o "$program" "$driver"
+    "$program"
+done

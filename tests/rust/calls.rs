@@ -1,58 +1,79 @@
-//! The port's exports and the Rust's functions, each pair behind one signature.
+//! The port's calls and the Rust's functions, each pair behind one signature: sixteen factors in, all that is answered out, as
+//! numbers and as the bits of floats.
 #![allow(dead_code)]
 use crate::inputs::Factors;
-use lc3::encoder::spectral_noise_shaping::SpectralNoiseShaping;
 
-/// What a call leaves: a number and up to two buffers.
-#[derive(Default)]
-pub struct Answer {
-    number: u64,
-    first: Factors,
-    second: Factors,
+pub type Bits = Vec<u32>;
+pub type Call = fn(&Factors) -> Bits;
+
+fn bits(numbers: &[u32], floats: &[f32]) -> Bits {
+    numbers.iter().copied().chain(floats.iter().map(|x| x.to_bits())).collect()
 }
 
-pub type Call = fn(&Factors, &mut Answer);
-
-/// All that a call answers, as bits.
-pub fn bits(call: Call, x: &Factors) -> (u64, [u32; 16], [u32; 16]) {
-    let mut a = Answer { number: u64::MAX, first: [f32::NAN; 16], second: [f32::NAN; 16] };
-    call(x, &mut a);
-    (a.number, a.first.map(f32::to_bits), a.second.map(f32::to_bits))
-}
-
-/// Stage 1: the low row, the high row 8 bits up; the codes; the residual.
+/// Stage 1: both rows; the codes; the residual.
 pub mod stage1 {
     use super::*;
+    use lc3::encoder::spectral_noise_shaping::SpectralNoiseShaping;
 
     extern "C" {
+        /// The low row, and the high row 8 bits up.
         fn bench_stage1(scf: &Factors, st1: &mut Factors, r1: &mut Factors) -> u32;
     }
 
-    pub fn ours(f: &Factors, a: &mut Answer) {
-        a.number = unsafe { bench_stage1(f, &mut a.first, &mut a.second) } as u64;
+    pub fn ours(f: &Factors) -> Bits {
+        let (mut codes, mut residual) = ([f32::NAN; 16], [f32::NAN; 16]);
+        let rows = unsafe { bench_stage1(f, &mut codes, &mut residual) };
+        bits(&[rows % 256, rows / 256], &[codes, residual].concat())
     }
 
-    pub fn rust(f: &Factors, a: &mut Answer) {
-        let rows = SpectralNoiseShaping::sns_quant_stage1(f, &mut a.first, &mut a.second);
-        a.number = (rows.ind_lf + (rows.ind_hf << 8)) as u64;
+    pub fn rust(f: &Factors) -> Bits {
+        let (mut codes, mut residual) = ([f32::NAN; 16], [f32::NAN; 16]);
+        let rows = SpectralNoiseShaping::sns_quant_stage1(f, &mut codes, &mut residual);
+        bits(&[rows.ind_lf as u32, rows.ind_hf as u32], &[codes, residual].concat())
     }
 }
 
-/// The encoder: the joint index, the low row 32 bits up, the high row 40, the gain 48; the sixteen factors.
+/// The encoder: refusal, place, rows, shape, gain, signs, joint index, plain indices; the sixteen factors.
 pub mod quant {
     use super::*;
+    use crate::reference::{run_quant, run_quant_place_10, Quantized};
 
-    extern "C" {
-        fn bench_quant(f: &Factors, q: &mut Factors, out: &mut u64);
+    pub fn ours(f: &Factors) -> Bits {
+        let mut factors = [f32::NAN; 16];
+        let e = lc3_sns::raw::encode(f, &mut factors);
+        let fields = [e.number, e.place, e.low_row, e.high_row, e.shape, e.gain, e.sign_a, e.sign_b, e.joint_index, e.index_a, e.index_b];
+        bits(&fields, &factors)
     }
 
-    pub fn ours(f: &Factors, a: &mut Answer) {
-        unsafe { bench_quant(f, &mut a.first, &mut a.number) }
+    fn taken(q: Quantized) -> Bits {
+        let fields: Vec<u32> = [0, 0].into_iter().chain(q.numbers).map(|n| n as u32).collect();
+        bits(&fields, &q.factors)
     }
 
-    pub fn rust(f: &Factors, a: &mut Answer) {
-        let (rows, shape) = SpectralNoiseShaping::run_quant(f, &mut a.first);
-        let parts = [shape.index_joint_j, rows.ind_lf << 32, rows.ind_hf << 40, shape.gind << 48];
-        a.number = parts.iter().fold(0u64, |sum, part| sum.wrapping_add(*part as u64));
+    pub fn rust(f: &Factors) -> Bits {
+        taken(run_quant(f))
+    }
+
+    /// The Rust with set B's pulse starting at place 10.
+    pub fn place_10(f: &Factors) -> Bits {
+        taken(run_quant_place_10(f))
+    }
+}
+
+/// The 64 bands of sixteen factors: the encoder's side of the Rust, which has the same rule there.
+pub mod bands_64 {
+    use super::*;
+    use lc3::encoder::spectral_noise_shaping::SpectralNoiseShaping;
+
+    pub fn ours(f: &Factors) -> Bits {
+        let mut bands = [f32::NAN; 64];
+        let c = lc3_sns::raw::interpolate(f, 64, &mut bands);
+        bits(&[c.number, c.place], &bands)
+    }
+
+    pub fn rust(f: &Factors) -> Bits {
+        let mut bands = [f32::NAN; 64];
+        SpectralNoiseShaping::apply_scale_factor_interpolation(f, &mut bands);
+        bits(&[0, 0], &bands)
     }
 }

@@ -2,6 +2,7 @@
 //! decoder; the same on every run. Every factor is finite and within plus or minus 64; every field is one that is taken.
 #![allow(dead_code)]
 use lc3::decoder::side_info::SnsVq;
+use lc3::encoder::spectral_noise_shaping::SpectralNoiseShaping;
 use lc3::tables::spec_noise_shape_quant_tables::{D, HFCB, LFCB, SNS_VQ_FAR_ADJ_GAINS};
 
 pub type Factors = [f32; 16];
@@ -41,7 +42,14 @@ pub const ALL: &[Distribution] = &[
     Distribution { name: "eighths", draw: |s| { let most = s.pick(&[8, 64, 512]); s.each(|s| s.below(2 * most + 1) as f32 / 8.0 - most as f32 / 8.0) } },
     Distribution { name: "ends of the range", draw: |s| { let x = s.each(|s| s.pick(&[64.0, -64.0])); ulps_off(s, x) } },
     Distribution { name: "corners, ulps off", draw: |s| { let x = s.pick(CORNERS).1.map(f32::from_bits); ulps_off(s, x) } },
+    Distribution { name: "decoded factors", draw: decoded },
+    Distribution { name: "decoded factors, ulps off", draw: |s| { let x = decoded(s); ulps_off(s, x) } },
 ];
+
+/// A float of any bits: any size, an infinity or a NaN.
+pub fn any_float(s: &mut Source) -> f32 {
+    f32::from_bits(s.next() as u32)
+}
 
 /// The uniform inputs of one scale, for timing.
 pub fn timed(scale: usize) -> Vec<Factors> {
@@ -102,22 +110,22 @@ pub const CORNERS: &[(&str, [u32; 16])] = &[
     ]),
 ];
 
-/// Random numbers by splitmix64.
-pub struct Source(u64);
+/// Random numbers by splitmix64, from a seed.
+pub struct Source(pub u64);
 
 impl Source {
-    fn next(&mut self) -> u64 {
+    pub fn next(&mut self) -> u64 {
         self.0 = self.0.wrapping_add(0x9e37_79b9_7f4a_7c15);
         let z = (self.0 ^ (self.0 >> 30)).wrapping_mul(0xbf58_476d_1ce4_e5b9);
         let z = (z ^ (z >> 27)).wrapping_mul(0x94d0_49bb_1331_11eb);
         z ^ (z >> 31)
     }
 
-    fn below(&mut self, n: u64) -> u64 {
+    pub fn below(&mut self, n: u64) -> u64 {
         self.next() % n
     }
 
-    fn pick<T: Copy>(&mut self, of: &[T]) -> T {
+    pub fn pick<T: Copy>(&mut self, of: &[T]) -> T {
         of[self.below(of.len() as u64) as usize]
     }
 
@@ -136,7 +144,7 @@ impl Source {
         f32::from_bits((97 + self.below(37) as u32) << 23)
     }
 
-    fn each(&mut self, mut one: impl FnMut(&mut Source) -> f32) -> Factors {
+    pub fn each(&mut self, mut one: impl FnMut(&mut Source) -> f32) -> Factors {
         std::array::from_fn(|_| one(self))
     }
 }
@@ -162,6 +170,13 @@ fn rows_and_pulses(s: &mut Source) -> Factors {
     let (code, gain) = (code_rows(s), s.pick(&SNS_VQ_FAR_ADJ_GAINS));
     let pulses = s.each(|s| s.pick(&[0.0, 0.0, 0.0, 1.0, -1.0, 2.0]));
     std::array::from_fn(|n| code[n] + gain * (0..16).map(|k| pulses[k] * D[n][k]).sum::<f32>())
+}
+
+/// What the encoder synthesised of some other factors: quantized once, to be quantized again.
+fn decoded(s: &mut Source) -> Factors {
+    let (x, mut factors) = (s.each(|s| 3.0 * s.gaussian()), [0.0; 16]);
+    SpectralNoiseShaping::run_quant(&x, &mut factors);
+    factors
 }
 
 /// A curve without jumps, as a spectrum gives it.

@@ -1,12 +1,14 @@
-//! The port's encoder beside the Rust's `run_quant`: rows, joint index, gain, the sixteen factors.
+//! The port's encoder beside the Rust's `run_quant`, every field and the sixteen factors; and its interpolation to 64 bands.
 mod calls;
 mod inputs;
+mod reference;
 mod report;
 
-use calls::quant::{ours, rust};
+use calls::{bands_64, quant};
 use inputs::Factors;
 use lc3::encoder::spectral_noise_shaping::SpectralNoiseShaping;
 use lc3::tables::spec_noise_shape_quant_tables::D;
+use report::Kind;
 
 /// The target is zero from place 10 on: there the Rust leaves set B empty, and is not followed.
 fn no_high_target(x: &Factors) -> bool {
@@ -16,5 +18,10 @@ fn no_high_target(x: &Factors) -> bool {
 }
 
 fn main() {
-    report::compare("encoder", ours, rust, "with no target from 10 on", no_high_target, true);
+    let high = Kind { name: "with no target from 10 on", holds: no_high_target, instead: Some(quant::place_10) };
+    let wide = Kind { name: "with a step over 64", holds: |x| x.windows(2).any(|w| (w[1] - w[0]).abs() > 64.0), instead: None };
+    report::end(
+        report::compare("encoder", quant::ours, quant::rust, &high)
+            + report::compare("interpolation", bands_64::ours, bands_64::rust, &wide),
+    )
 }

@@ -1,10 +1,44 @@
-//! The Rust's numbering and decoder behind plain signatures.
+//! The Rust's encoder, numbering and decoder behind plain signatures.
 #![allow(dead_code)]
+use crate::inputs::Factors;
 use lc3::common::config::{FrameDuration, Lc3Config, SamplingFrequency};
 use lc3::decoder::side_info::SnsVq;
 use lc3::decoder::spectral_noise_shaping::{decode, mpvq_deenum};
 use lc3::encoder::spectral_noise_shaping::SpectralNoiseShaping;
 use lc3::tables::band_index_tables::*;
+
+/// What the encoder answers: low row, high row, shape, gain, sign A, sign B, joint index, index A, index B; and the sixteen factors.
+#[derive(PartialEq)]
+pub struct Quantized {
+    pub numbers: [i64; 9],
+    pub factors: Factors,
+}
+
+/// Indices A and B of a joint index, which the Rust does not answer: how its own stage 2 put them together, taken apart.
+fn indices(shape: usize, joint: i64) -> (i64, i64) {
+    match shape {
+        0 => (joint % 2390004, (joint / 2390004 - 2) / 2),
+        1 => (joint % 2390004, 0),
+        2 => (joint, 0),
+        _ => ((joint - 15158272) / 2, 0),
+    }
+}
+
+macro_rules! encoder {
+    ($name:ident, $rust:ident) => {
+        pub fn $name(x: &Factors) -> Quantized {
+            let mut factors = [0.0; 16];
+            let (rows, rest) = $rust::encoder::spectral_noise_shaping::SpectralNoiseShaping::run_quant(x, &mut factors);
+            let [low, high, shape, gain, joint] = [rows.ind_lf, rows.ind_hf, rest.shape_j, rest.gind, rest.index_joint_j].map(|n| n as i64);
+            let (a, b) = indices(rest.shape_j, joint);
+            Quantized { numbers: [low, high, shape, gain, rest.ls_inda as i64, rest.ls_indb as i64, joint, a, b], factors }
+        }
+    };
+}
+
+// the Rust, and the copy in which set B's pulse starts at place 10 (build.sh)
+encoder!(run_quant, lc3);
+encoder!(run_quant_place_10, lc3_place_10);
 
 /// Dimension, pulse count and size of the four pairs.
 pub const PAIRS: [(usize, usize, usize); 4] = [(10, 10, 2390004), (6, 1, 6), (16, 8, 15158272), (16, 6, 774912)];
@@ -16,10 +50,8 @@ pub fn pack(vector: &[i32]) -> (usize, i32) {
     (index, sign)
 }
 
-pub fn unpack(dimension: usize, pulses: usize, sign: usize, index: usize) -> Vec<i32> {
-    let mut vector = vec![0; dimension];
-    mpvq_deenum(dimension, pulses, sign, index, &mut vector);
-    vector
+pub fn unpack_into(dimension: usize, pulses: usize, sign: usize, index: usize, vector: &mut [i32]) {
+    mpvq_deenum(dimension, pulses, sign, index, vector);
 }
 
 /// A rate index from 0 to 4.

@@ -1,11 +1,13 @@
 //! Stage 1 of the port beside the Rust's: both rows, the sixteen codes, the sixteen residuals.
 mod calls;
 mod inputs;
+mod reference;
 mod report;
 
 use calls::stage1::{ours, rust};
 use inputs::Factors;
 use lc3::tables::spec_noise_shape_quant_tables::{HFCB, LFCB};
+use report::Kind;
 
 /// Two rows of a half are at the least distance.
 fn tied(x: &Factors) -> bool {
@@ -17,5 +19,5 @@ fn tied(x: &Factors) -> bool {
 }
 
 fn main() {
-    report::compare("stage 1", ours, rust, "with two nearest rows", tied, false);
+    report::end(report::compare("stage 1", ours, rust, &Kind { name: "with two nearest rows", holds: tied, instead: None }))
 }

@@ -4,7 +4,7 @@
 //! refusal each lent slice holds what it held.
 use std::fmt;
 
-mod raw;
+pub mod raw;
 
 /// A refusal: its number and the place that it speaks of.
 #[derive(Clone, Copy, Debug, PartialEq, Eq)]

@@ -1,5 +1,6 @@
 //! The library's own calls, as include/lc3_sns.h has them, each behind a function that is safe for every input: a slice's pointer
-//! and length belong together, is never null, and `&mut` slices overlap no other.
+//! and length belong together, the pointer is never null, and `&mut` slices overlap no other. For a caller who wants the numbers as
+//! they are, or slices of any length lent to every call; the functions above this module are the usual way.
 use super::Fields;
 
 #[repr(C)]
