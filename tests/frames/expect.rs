@@ -1,5 +1,7 @@
 //! The recorded frames as input of the programs, and what the Rust answers to them as their expected output.
-//! `expect FOLDER` writes FOLDER/NAME/stdin and FOLDER/NAME/stdout for quantize, answers_run and frames_run.
+//! `expect FOLDER` writes FOLDER/NAME/stdin and FOLDER/NAME/stdout for quantize, answers_run and frames_run, and the stdout of
+//! decoder_run, which reads nothing.
+mod corners;
 #[path = "../rust/inputs.rs"]
 mod inputs;
 #[path = "../rust/reference.rs"]
@@ -135,4 +137,9 @@ fn main() {
     let (stdin, stdout) = decoded(&frames);
     print!("frames_run: {stdout}");
     save(&folder, "frames_run", stdin, stdout);
+
+    let corners = corners::decoder_run();
+    println!("decoder_run: {} lines", corners.lines().count());
+    create_dir_all(format!("{folder}/decoder_run")).expect("the folder");
+    write(format!("{folder}/decoder_run/stdout"), corners).expect("stdout");
 }

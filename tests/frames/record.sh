@@ -1,6 +1,7 @@
 #!/bin/sh
-# Makes standard input and expected output of quantize, answers_run and frames_run anew: the recorded frames of frames.txt and
-# the drawn inputs of ../rust/inputs.rs, and what the Rust answers to them. Run it in the repository's root.
+# Makes standard input and expected output of quantize, answers_run and frames_run anew, and the expected output of decoder_run:
+# the recorded frames of frames.txt, the drawn inputs of ../rust/inputs.rs and the corners of corners.rs, and what the Rust
+# answers to them. Run it in the repository's root.
 # The Rust's source is found at ../shared/docs/src, or where LC3_SRC says. With --check it writes nothing and compares.
 set -eu
 tests/rust/build.sh >/dev/null
@@ -12,9 +13,7 @@ rustc $flags --extern lc3 --extern lc3_place_10 -o "$program" tests/frames/expec
 made=target/rust/frames
 rm -rf "$made"
 "$program" "$made"
-for name in quantize answers_run frames_run; do
-    for file in stdin stdout; do
-        cmp "$made/$name/$file" "crates/$name/$file"
-    done
+(cd "$made" && find . -type f) | while read -r file; do
+    cmp "$made/$file" "crates/$file" || exit 1
 done
 echo "recorded frames and answers: equal to the Rust's"

@@ -1,5 +1,6 @@
 // Single pulses, each at the place that serves best: the search that shapes 3, 2 and 1 share. The running search
-// record goes through it by value. Public for the crates above only; every result is pinned by a definition.
+// record goes through it by value. Public for the crates above only; every result is pinned by a definition, but for the
+// guess of guess.rt, which promises a place below 16 and is tested before it is taken.
 ghost use mathlib.Core.Path.{_≡_};
 ghost use Prim.Native.Nat.{_+_, _-_, _<_, _≤_};
 ghost use lib.ListN.{length};
