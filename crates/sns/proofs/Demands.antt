@@ -43,4 +43,10 @@ numbered =
     }
 
 pub unbeaten : Unbeaten
-unbeaten = record { none-beats = encode.none-beats; answered = encode.all-answered; decodes-again = encode.decodes-again }
+unbeaten =
+    record {
+      none-beats = encode.none-beats;
+      answered = encode.all-answered;
+      decodes-again = encode.decodes-again;
+      factors-alone = encode.factors-alone;
+    }

@@ -1,5 +1,5 @@
 -- The claims of specs/EncodeClaims.antt: the quantizer's, at the call. Assumes nothing.
-use mathlib.Core.Path.{_≡_, refl, sym, _∙_, subst}
+use mathlib.Core.Path.{_≡_, refl, sym, ap, _∙_, subst}
 use mathlib.Core.List.{List, append-nil}
 use Prim.Native.Nat.{ℕ, zero, suc, _<_}
 use borrow.Author.Tests.{not-false, eqb-true}
@@ -27,8 +27,9 @@ use Rattle.encoder.specs.Quantized.{quantizedOf}
 use Rattle.encoder.proofs.Claims.{all-nearest}
 use Rattle.encoder.proofs.Inside.{inside}
 use Rattle.sns.specs.declared.Answer.the-variants.{Done}
-use Rattle.sns.specs.Encode.{encodeQuestions, encodeAnswer, fieldsOf}
-use Rattle.sns.specs.EncodeClaims.{EncodePinned, EncodeTaken, EncodeTakes, AllAnswered, NoneBeats, DecodesAgain}
+use Rattle.sns.specs.Answers.{kept}
+use Rattle.sns.specs.Encode.{encodeQuestions, encodeAnswer, encodedAs, fieldsOf}
+use Rattle.sns.specs.EncodeClaims.{EncodePinned, FactorsAlone, EncodeTaken, EncodeTakes, AllAnswered, NoneBeats, DecodesAgain}
 use Rattle.sns.proofs.Taken.{decode-takes}
 use Rattle.sns.proofs.Answers.{done}
 use Rattle.sns.proofs.Elements.{factors-done, done-factors, done-taken}
@@ -36,6 +37,15 @@ use Rattle.sns.proofs.EncodeAnswers.{by-factors}
 
 pub encode-pinned : EncodePinned
 encode-pinned factors old r r′ new new′ (p, q) (p′, q′) = (p ∙ sym p′, q ∙ sym q′)
+
+pub factors-alone : FactorsAlone
+factors-alone factors old old′ r r′ new new′ l (p, q) (p′, q′) = (p ∙ same ∙ sym p′, λ d. filled old new q d ∙ sym (filled old′ new′ q′ (sym (ap (encodeAnswer factors) l) ∙ d)))
+  where
+    same : encodedAs (encodeAnswer factors (length old)) (quantizedOf factors) ≡ encodedAs (encodeAnswer factors (length old′)) (quantizedOf factors)
+    same = ap (λ n. encodedAs (encodeAnswer factors n) (quantizedOf factors)) l
+
+    filled : (o n : List Float) → n ≡ kept (encodeAnswer factors (length o)) (quantizedOf factors .stage2 .scfq) o → encodeAnswer factors (length o) ≡ Done → n ≡ quantizedOf factors .stage2 .scfq
+    filled o n q d = q ∙ ap (λ a. kept a (quantizedOf factors .stage2 .scfq) o) d
 
 pub encode-takes : EncodeTakes
 unfolding encodeQuestions

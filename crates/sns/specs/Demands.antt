@@ -40,3 +40,4 @@ pub record Unbeaten : Type 0 where
   pub none-beats : encode.NoneBeats
   pub answered : encode.AllAnswered
   pub decodes-again : encode.DecodesAgain
+  pub factors-alone : encode.FactorsAlone

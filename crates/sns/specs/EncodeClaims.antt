@@ -56,3 +56,10 @@ abbrev pub DecodesAgain : Type 0
 DecodesAgain =
     (factors : List Float) → let f = fieldsOf (quantizedOf factors) in
     (decodeAnswer f 16 ≡ Done) × (fieldPulses f ≡ signedFor (targetOf (residual factors)) (f .shape))
+
+-- it depends on the sixteen factors alone: whatever two lent buffers held before, the answers are the same, and so is what the buffers hold after
+abbrev pub FactorsAlone : Type 0
+FactorsAlone =
+    (factors old old′ : List Float) (r r′ : Encoded) (new new′ : List Float)
+    → length old ≡ length old′ → EncodeSays factors old r new → EncodeSays factors old′ r′ new′
+    → (r ≡ r′) × (encodeAnswer factors (length old) ≡ Done → new ≡ new′)
