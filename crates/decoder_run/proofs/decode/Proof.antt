@@ -6,9 +6,6 @@ use borrow.Author.Needs.{needs}
 use Rattle.decoder_run.proofs.decode.Statement.{statement}
 use Rattle.decoder_run.proofs.decode.Tie as tie
 
-mpvq-offsets-requires : tie.Need-mpvq-offsets-requires
-mpvq-offsets-requires c κs = search needs
-
 lfcb-requires : tie.Need-lfcb-requires
 lfcb-requires c κs = search needs
 
@@ -53,7 +50,6 @@ pub decode-spec : {M : Type 1} → statement M
 decode-spec =
     tie.close
     (tie.spec
-    mpvq-offsets-requires
     lfcb-requires
     hfcb-requires
     d-by-columns-requires

@@ -6,9 +6,6 @@ use Rattle.stage2.proofs.Cases.{part-0, part-1, part-2, room-a, room-b,
 use Rattle.stage2.proofs.enumerate.Statement.{statement}
 use Rattle.stage2.proofs.enumerate.Tie as tie
 
-mpvq-offsets-requires : tie.Need-mpvq-offsets-requires
-mpvq-offsets-requires c κs = search needs
-
 sub-mvpq-enum : tie.Need-sub-mvpq-enum
 sub-mvpq-enum c = search needs
 
@@ -22,7 +19,7 @@ mvpq-enum-requires : tie.Need-mvpq-enum-requires
 mvpq-enum-requires c κs =
     let s = c .before .before .before in
     let r = room-a _ 10 _ (lit≤ tt) (s .before .before .pre .1) (part-0 _ _ (s .if1 .taken)) in
-    (s .before .mpvq-offsets .ensures, r .0, r .1)
+    (r .0, r .1)
 
 sub-mvpq-enum-2 : tie.Need-sub-mvpq-enum-2
 sub-mvpq-enum-2 c = search needs
@@ -37,7 +34,7 @@ mvpq-enum-requires-2 : tie.Need-mvpq-enum-requires-2
 mvpq-enum-requires-2 c κs =
     let s = c .before .before .before .before .before .before .before in
     let r = room-b _ _ (s .before .before .pre .1) (s .if1 .taken) in
-    (s .before .mpvq-offsets .ensures, r .0, r .1)
+    (r .0, r .1)
 
 returns : tie.Need-returns
 returns c =
@@ -58,7 +55,7 @@ mvpq-enum-requires-3 : tie.Need-mvpq-enum-requires-3
 mvpq-enum-requires-3 c κs =
     let s = c .before .before .before in
     let r = room-a _ 10 _ (lit≤ tt) (s .before .before .before .pre .1) (part-1 _ _ (s .if2 .taken)) in
-    (s .before .before .mpvq-offsets .ensures, r .0, r .1)
+    (r .0, r .1)
 
 returns-2 : tie.Need-returns-2
 returns-2 c =
@@ -73,7 +70,7 @@ mvpq-enum-requires-4 c κs =
     let s = c .before .before in
     let p = s .before .before .before .pre .1 in
     let r = room-all _ _ p (part-2 _ _ (p .places) (s .before .if1 .left) (s .if2 .left)) in
-    (s .before .before .mpvq-offsets .ensures, r .0, r .1)
+    (r .0, r .1)
 
 returns-3 : tie.Need-returns-3
 returns-3 c =
@@ -85,7 +82,6 @@ pub enumerate-spec : {M : Type 1} → statement M
 enumerate-spec =
     tie.close
     (tie.spec
-    mpvq-offsets-requires
     sub-mvpq-enum
     part-mvpq-enum-start
     part-mvpq-enum-end
