@@ -24,8 +24,8 @@ pulses-requires c κs = search needs
 factors-requires : tie.Need-factors-requires
 factors-requires c κs =
     let y = c .before .before .before .before .before in
-    let r = y .before .before in
-    let a = r .before .before .before .before .before in
+    let r = y .before in
+    let a = r .before .before .before .before in
     let i = a .args in (
       (r .before .before .before .lfcb .ensures, r .before .before .hfcb .ensures, r .before .d-by-columns .ensures, r .roots .ensures),
       subst (Accepted (i .low) (i .high) (i .shape) (i .gain)) (sym (y .pulses .ensures)) (accepted _ _ _ _ _ _ _ _ (a .pre)),

@@ -42,11 +42,10 @@ returns-3 c =
 
 mvpq-enum-requires : tie.Need-mvpq-enum-requires
 mvpq-enum-requires c κs =
-    let e = c in
-    let p = e .before .before in
+    let p = c .before .before in
     let s = set-is (p .before .before .before .before) in (
       omega (arith, s .dimension, s .small .places, p .before .if1 .left),
-      omega (arith, s .pulses, s .small .few, p .pulses .ensures, e .if2 .left),
+      omega (arith, s .pulses, s .small .few, p .pulses .ensures, c .if2 .left),
     )
 
 returns-4 : tie.Need-returns-4
