@@ -134,12 +134,11 @@ fn decode(
 )
     requires { ⌜ Input low high shape gain «sign_a» «index_a» «sign_b» «index_b» ⌝ }
 {
-    let offsets = tables::mpvq_offsets();
     let lfcb = tables::lfcb();
     let hfcb = tables::hfcb();
     let d = sns_tables::by_columns::d_by_columns();
     let roots = roots::roots();
-    let y = decoder_pulses::pulses(&offsets, shape, sign_a, index_a, sign_b, index_b);
+    let y = decoder_pulses::pulses(shape, sign_a, index_a, sign_b, index_b);
     let factors = synthesis::factors(&lfcb, &hfcb, &d, &roots, low, high, shape, gain, &y);
     io::write_all(STDOUT_FILENO, b"factors");
     floats(&factors);

@@ -114,7 +114,7 @@ at-column : (n m s i k d t : ℕ) → columnOf n m i ≡ k → m - k ≡ d → i
 unfolding vectorAt
 at-column n m s i k d t p q r = rw (p, q, r)
 
-none-there : (n k s i : ℕ) → vectorAt (suc n) (0 + k) s (offsetOf n k + i) ≡ signed s 0 ∷ vectorAt n k s i
+pub none-there : (n k s i : ℕ) → vectorAt (suc n) (0 + k) s (offsetOf n k + i) ≡ signed s 0 ∷ vectorAt n k s i
 unfolding nextSign nextIndex
 none-there n k s i =
     at-column n (0 + k) s (offsetOf n k + i) k 0 i

@@ -1,5 +1,5 @@
 -- The column found: the greatest, from k down, whose offset is at most the index. Assumes nothing.
-use mathlib.Core.Path.{_≡_, refl}
+use mathlib.Core.Path.{_≡_, refl, sym, _∙_}
 use mathlib.Core.Bool.{Bool, true, false}
 use mathlib.Core.Logic.{_⊎_, inl, inr}
 use Prim.Native.Nat.{ℕ, zero, suc, _-_, _≤_, _<_}
@@ -54,8 +54,20 @@ column-falls n (suc k) i h =
     let e : suc k - 1 ≡ k = omega arith in
     (omega arith, rw (e, lt-leb (offsetOf n (suc k)) i h))
 
+-- two columns at a time: the offset below is no greater
+pub column-falls-twice : (n k i : ℕ) → i < offsetOf n (k - 1) → (2 ≤ k) × (columnOf n k i ≡ columnOf n (k - 2) i)
+column-falls-twice n k i h =
+    let (p, a) = column-falls n (k - 1) i h in
+    let (q, b) = column-falls n k i (omega (arith, mono n (k - 1) k (omega arith))) in
+    let e : k - 1 - 1 ≡ k - 2 = omega arith in
+    (omega arith, b ∙ a ∙ rw e)
+
+pub column-second : (n k i : ℕ) → i < offsetOf n k → offsetOf n (k - 1) ≤ i → columnOf n k i ≡ k - 1
+column-second n k i h l = column-falls n k i h .1 ∙ column-stays n (k - 1) i l
+
+-- a column that is the one found, with its offset: what is left of the index
+pub left-is : (n k i c o : ℕ) → columnOf n k i ≡ c → o ≡ offsetOf n c → (c ≡ columnOf n k i) × (i - o ≡ i - offsetOf n (columnOf n k i))
+left-is n k i c o p q = (sym p, rw (q, p))
+
 pub column-within : (n k i : ℕ) → columnOf n k i ≤ k
 column-within n k i = column n k i .within
-
-pub column-low : (n k i : ℕ) → offsetOf n (columnOf n k i) ≤ i
-column-low n k i = column n k i .low

@@ -18,6 +18,11 @@ pub ones : (k : ℕ) → offsetOf 0 (suc k) ≡ 1
 unfolding offsetOf
 ones k = refl
 
+-- column 1 has offset 1
+pub second : (n : ℕ) → offsetOf n 1 ≡ 1
+second zero = ones 0
+second (suc n) = omega (arith, step n 0, first n, first (suc n), second n)
+
 pub rises : (n k : ℕ) → offsetOf n k ≤ offsetOf n (suc k)
 rises zero zero = omega (arith, first 0, ones 0)
 rises zero (suc k) = omega (arith, ones k, ones (suc k))

@@ -1,26 +1,19 @@
 // The numbering of pulse vectors: `mvpq_enum` packs a vector into an index and a lead sign, `mpvq_deenum` unpacks them.
-// Public for the crates above only: a caller asks sns_tables for the offsets once and lends them on, and shows the
-// `requires`, which the refusals of the public calls give. Every result is pinned by specs/Numbering.antt.
+// Public for the crates above only: a caller shows the `requires`, which the refusals of the public calls give. Every result
+// is pinned by specs/Numbering.antt.
 ghost use mathlib.Core.Path.{_≡_};
 ghost use mathlib.Core.List.{_++_};
 ghost use Prim.Native.Nat.{_<_, _≤_, _+_, _-_, _*_};
 ghost use lib.IntN.{pos, natAbs};
-ghost use lib.ListN.{length, take, replicate};
-ghost use Rattle.sns_tables.specs.Offsets.{offsetOf, offsetTable};
+ghost use lib.ListN.{length, take, set, replicate};
+ghost use Rattle.sns_tables.specs.Offsets.{offsetOf};
 ghost use Rattle.numbering.specs.Numbering.{pulsesOf, leadSign, signBefore, pushed, indexOf, columnOf, signed, nextSign, nextIndex, vectorAt};
+use sns_tables::mpvq_offsets::mpvq_offset;
 
 // An index with its lead sign.
 pub struct Numbered {
     pub index: u32,
     pub sign: u32,
-}
-
-// A(n,k), read in the lent table.
-fn offset(offsets: &[[u32; 11]; 16], n: usize, k: usize) -> u32
-    requires { ⌜ (now offsets ≡ offsetTable) × (n < 16) × (k < 11) ⌝ }
-    ensures { λ r. ⌜ r ≡ offsetOf n k ⌝ }
-{
-    offsets[n][k]
 }
 
 // The size of a signed number, right at the least i32 too.
@@ -65,8 +58,8 @@ fn enc_push_sign(val: i32, sign: u32, index: u32) -> Numbered
 }
 
 // Packs a vector of at most sixteen places and ten pulses: its index and its lead sign, from its last place down.
-pub fn mvpq_enum(offsets: &[[u32; 11]; 16], v: &[i32]) -> Numbered
-    requires { ⌜ (now offsets ≡ offsetTable) × (length (now v) ≤ 16) × (pulsesOf (now v) ≤ 10) ⌝ }
+pub fn mvpq_enum(v: &[i32]) -> Numbered
+    requires { ⌜ (length (now v) ≤ 16) × (pulsesOf (now v) ≤ 10) ⌝ }
     ensures { λ r. ⌜ (r .index ≡ indexOf (now (v .entry))) × (r .sign ≡ leadSign (now (v .entry))) ⌝ }
 {
     let mut index: u32 = 0;
@@ -78,7 +71,7 @@ pub fn mvpq_enum(offsets: &[[u32; 11]; 16], v: &[i32]) -> Numbered
         pos -= 1;
         let val = v[pos];
         let pushed = enc_push_sign(val, next_sign, index);
-        index = pushed.index + offset(offsets, n, k_val_acc);
+        index = pushed.index + mpvq_offset(n, k_val_acc);
         next_sign = pushed.sign;
         k_val_acc += magnitude(val);
     }
@@ -88,17 +81,50 @@ pub fn mvpq_enum(offsets: &[[u32; 11]; 16], v: &[i32]) -> Numbered
     }
 }
 
-// The greatest column, from k down, whose offset is at most the index: the pulses left after a place. Column 0 has
-// offset 0, so the walk ends there at the latest.
-fn column(offsets: &[[u32; 11]; 16], n: usize, k: usize, ind: u32) -> usize
-    requires { ⌜ (now offsets ≡ offsetTable) × (n < 16) × (k < 11) ⌝ }
-    ensures { λ r. ⌜ r ≡ columnOf n k ind ⌝ }
+// What a place leaves: the pulses after it, and what is left of the index.
+struct Left {
+    pulses: usize,
+    rest: u32,
+}
+
+// The column and the rest, by one column after the other. Column 0 has offset 0, so the walk ends there at the latest.
+fn column_down(n: usize, k: usize, ind: u32) -> Left
+    requires { ⌜ (n < 16) × (k < 11) ⌝ }
+    ensures { λ r. ⌜ (r .pulses ≡ columnOf n k ind) × (r .rest ≡ ind - offsetOf n (columnOf n k ind)) ⌝ }
 {
     let mut k_acc = k;
-    while ind < offset(offsets, n, k_acc) {
+    let mut offset = mpvq_offset(n, k_acc);
+    while ind < offset {
         k_acc -= 1;
+        offset = mpvq_offset(n, k_acc);
     }
-    k_acc
+    Left {
+        pulses: k_acc,
+        rest: ind - offset,
+    }
+}
+
+// The greatest column, from k down, whose offset is at most the index: the pulses left after a place; and the rest of the
+// index. Both k and k - 1 are looked at before any walk: the offsets of a row never fall from column to column.
+fn column(n: usize, k: usize, ind: u32) -> Left
+    requires { ⌜ (n < 16) × (k < 11) × (0 < k) ⌝ }
+    ensures { λ r. ⌜ (r .pulses ≡ columnOf n k ind) × (r .rest ≡ ind - offsetOf n (columnOf n k ind)) ⌝ }
+{
+    let first = mpvq_offset(n, k);
+    let second = mpvq_offset(n, k - 1);
+    if ind < second {
+        return column_down(n, k - 2, ind);
+    }
+    if ind < first {
+        return Left {
+            pulses: k - 1,
+            rest: ind - second,
+        };
+    }
+    Left {
+        pulses: k,
+        rest: ind - first,
+    }
 }
 
 // k pulses with a sign.
@@ -135,17 +161,23 @@ fn clear(out: &mut [i32], from: usize)
     }
 }
 
-// Unpacks: fills out, of dim places, with the vector of so many pulses at a lead sign and an index. Once the index is zero
-// all pulses that are left stand at one place, and no offset is looked at.
-pub fn mpvq_deenum(
-    offsets: &[[u32; 11]; 16],
-    dim: usize,
-    pulses: usize,
-    sign: u32,
-    index: u32,
-    out: &mut [i32],
-)
-    requires { ⌜ (now offsets ≡ offsetTable) × (dim ≤ 16) × (pulses < 11) × (length (now out) ≡ dim) ⌝ }
+// All pulses that are left stand at one place, ind places on from a place: zeros from that place on, and k pulses with
+// their sign there, or nowhere if that is past the end.
+fn at_one_place(out: &mut [i32], from: usize, k: usize, sign: u32, ind: u32)
+    requires { ⌜ (from ≤ length (now out)) × (k < 11) ⌝ }
+    ensures { λ _. ⌜ now (out .exit) ≡ take from (now (out .entry)) ++ set (replicate (length (now (out .entry)) - from) (pos 0)) ind (signed sign k) ⌝ }
+{
+    clear(out, from);
+    let place = from + ind as usize;
+    if place < out.len() {
+        out[place] = mind2vec_one(k, sign);
+    }
+}
+
+// Unpacks: fills out, of dim places, with the vector of so many pulses at a lead sign and an index. Once fewer than two
+// pulses are left, or the index is zero, they stand at one place, and no offset is looked at.
+pub fn mpvq_deenum(dim: usize, pulses: usize, sign: u32, index: u32, out: &mut [i32])
+    requires { ⌜ (dim ≤ 16) × (pulses < 11) × (length (now out) ≡ dim) ⌝ }
     ensures { λ _. ⌜ now (out .exit) ≡ vectorAt dim pulses sign index ⌝ }
 {
     let mut k_max_local = pulses;
@@ -153,19 +185,18 @@ pub fn mpvq_deenum(
     let mut ind = index;
     let mut pos = 0;
     while pos < dim {
-        if ind == 0 {
-            out[pos] = mind2vec_one(k_max_local, leading_sign);
-            clear(out, pos + 1);
+        if k_max_local < 2 || ind == 0 {
+            at_one_place(out, pos, k_max_local, leading_sign, ind);
             return;
         }
         let n = dim - 1 - pos;
-        let k_acc = column(offsets, n, k_max_local, ind);
-        let k_delta = k_max_local - k_acc;
+        let left = column(n, k_max_local, ind);
+        let k_delta = k_max_local - left.pulses;
         out[pos] = mind2vec_one(k_delta, leading_sign);
-        let next = setval_update_sign(k_delta, leading_sign, ind - offset(offsets, n, k_acc));
+        let next = setval_update_sign(k_delta, leading_sign, left.rest);
         leading_sign = next.sign;
         ind = next.index;
-        k_max_local = k_acc;
+        k_max_local = left.pulses;
         pos += 1;
     }
 }

@@ -15,15 +15,7 @@ fn pulses_of(f: Fields) -> [i32; 16]
     requires { ⌜ answerOf (fieldQuestions f) ≡ Done ⌝ }
     ensures { λ r. ⌜ r ≡ fieldPulses f ⌝ }
 {
-    let offsets = tables::mpvq_offsets();
-    decoder_pulses::pulses(
-        &offsets,
-        f.shape as usize,
-        f.sign_a,
-        f.index_a,
-        f.sign_b,
-        f.index_b,
-    )
+    decoder_pulses::pulses(f.shape as usize, f.sign_a, f.index_a, f.sign_b, f.index_b)
 }
 
 // The sixteen factors of accepted fields.

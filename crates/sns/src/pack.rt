@@ -2,7 +2,6 @@
 use numbering::mvpq_enum;
 use shapes::Found;
 use shapes::PulseSet;
-use sns_tables::spec_noise_shape_quant_tables::mpvq_offsets;
 ghost use mathlib.Core.Path.{_≡_};
 ghost use Rattle.sns.specs.Pack.{packAnswer};
 
@@ -26,7 +25,6 @@ pub fn pack(dimension: u32, pulses: u32, vector: &[i32]) -> Packed
     if numbering::pulses(vector) != set.pulses {
         return Packed::No(6, 0);
     }
-    let offsets = mpvq_offsets();
-    let number = mvpq_enum(&offsets, vector);
+    let number = mvpq_enum(vector);
     Packed::At(number.index, number.sign)
 }

@@ -3,7 +3,6 @@ use crate::Answer;
 use numbering::mpvq_deenum;
 use shapes::Found;
 use shapes::PulseSet;
-use sns_tables::spec_noise_shape_quant_tables::mpvq_offsets;
 ghost use Rattle.sns.specs.Unpack.{UnpackSays};
 
 // Fills `vector` with the vector of `dimension` places and `pulses` pulses that has this lead sign, 0 or 1, and this
@@ -23,7 +22,6 @@ pub fn unpack(dimension: u32, pulses: u32, sign: u32, index: u32, vector: &mut [
     if set.size <= index {
         return Answer::No(5, 0);
     }
-    let offsets = mpvq_offsets();
-    mpvq_deenum(&offsets, set.dimension, set.pulses, sign, index, vector);
+    mpvq_deenum(set.dimension, set.pulses, sign, index, vector);
     Answer::Done
 }

@@ -2,14 +2,14 @@
 use mathlib.Core.Path.{_≡_, refl, sym, ap₂, _∙_}
 use mathlib.Core.Bool.{Bool}
 use mathlib.Core.List.{List, [], _∷_}
-use Prim.Native.Nat.{ℕ, zero, suc, _+_, _<_}
+use Prim.Native.Nat.{ℕ, zero, suc, _+_, _*_, _/_, _%_, _<_}
 use native.Mathlib.Omega.{arith}
 use lib.Dec.{T, eqb, eqb→eq, lit<}
 use lib.ListN.{length, getD}
-use Rattle.list_laws.specs.Every.{every, gridFrom}
+use Rattle.list_laws.specs.Every.{gridFrom}
 use Rattle.list_laws.specs.ListOf.{listOf}
-use Rattle.list_laws.proofs.Every.{at, at-grid}
-use Rattle.list_laws.proofs.ListOf.{is-listOf, getD-listOf}
+use Rattle.list_laws.proofs.Every.{at-grid}
+use Rattle.list_laws.proofs.ListOf.{getD-listOf}
 use Rattle.sns_tables.specs.Offsets.{offsetOf, offsetTable, entryOf}
 use Rattle.sns_tables.specs.Claims.{OffsetsObey}
 
@@ -52,13 +52,6 @@ rows : length offsetRows ≡ 16
 unfolding offsetRows
 rows = refl
 
-widths : T (every (λ r. eqb (length r) 11) offsetRows)
-unfolding offsetRows
-widths = tt
-
-width : (n : ℕ) → n < 16 → length (getD offsetRows n []) ≡ 11
-width n h = eqb→eq (length (getD offsetRows n [])) 11 (at [] (λ r. eqb (length r) 11) offsetRows widths n (rw rows h))
-
 rule : (n k : ℕ) → n < 16 → k < 11 → T (obeys n k (entryAt n k))
 rule n k h l = at-grid 0 11 obeys offsetRows table-obeys n k (rw rows h) l
 
@@ -79,10 +72,12 @@ entry (suc n) (suc k) h l =
     under : {i j : ℕ} → suc i < j → i < j
     under q = omega arith
 
--- so the whole table is
-pub rows-are : offsetRows ≡ offsetTable
-unfolding offsetTable
-rows-are = is-listOf 16 (λ n. listOf 11 (λ k. offsetOf n k)) [] offsetRows rows (λ n h. is-listOf 11 (λ k. offsetOf n k) 0 (getD offsetRows n []) (width n h) (λ k l. entry n k h l))
+-- x is A(n,k), if it is the entry at that place of all 176, row by row: the one law behind every arm of the code's `match`
+pub arm : (n k place x : ℕ) → n < 16 → k < 11 → 11 * n + k ≡ place → x ≡ entryAt (place / 11) (place % 11) → x ≡ offsetOf n k
+arm n k place x h l e p =
+    let a : place / 11 ≡ n = omega arith in
+    let b : place % 11 ≡ k = omega arith in
+    (rw (a, b) at p) ∙ entry n k h l
 
 -- the table's entries, and so its recurrence
 table-entry : (n k : ℕ) → n < 16 → k < 11 → entryOf offsetTable n k ≡ offsetOf n k

@@ -98,10 +98,9 @@ fn enumerate(shape_j: usize, v: [i32; 16]) -> Numbers
     requires { ⌜ («shape_j» < 4) × Numberable «shape_j» v ⌝ }
     ensures { λ n. ⌜ n ≡ numbersOf «shape_j» v ⌝ }
 {
-    let offsets = sns_tables::spec_noise_shape_quant_tables::mpvq_offsets();
     if shape_j == 0 {
-        let a = numbering::mvpq_enum(&offsets, &v[0..10]);
-        let b = numbering::mvpq_enum(&offsets, &v[10..16]);
+        let a = numbering::mvpq_enum(&v[0..10]);
+        let b = numbering::mvpq_enum(&v[10..16]);
         return Numbers {
             idxa: a.index,
             ls_inda: a.sign,
@@ -110,7 +109,7 @@ fn enumerate(shape_j: usize, v: [i32; 16]) -> Numbers
         };
     }
     if shape_j == 1 {
-        let a = numbering::mvpq_enum(&offsets, &v[0..10]);
+        let a = numbering::mvpq_enum(&v[0..10]);
         return Numbers {
             idxa: a.index,
             ls_inda: a.sign,
@@ -118,7 +117,7 @@ fn enumerate(shape_j: usize, v: [i32; 16]) -> Numbers
             ls_indb: 0,
         };
     }
-    let a = numbering::mvpq_enum(&offsets, &v);
+    let a = numbering::mvpq_enum(&v);
     Numbers {
         idxa: a.index,
         ls_inda: a.sign,

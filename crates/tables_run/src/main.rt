@@ -2,6 +2,7 @@
 // tables give (tests/tables/record.sh), so the two are equal bit for bit.
 use libc::STDOUT_FILENO;
 use sns_tables::band_index_tables as bands;
+use sns_tables::mpvq_offsets::mpvq_offset;
 use sns_tables::spec_noise_shape_quant_tables as tables;
 
 fn end_line() {
@@ -57,13 +58,13 @@ fn print_rotation(rows: &[[f32; 16]; 16]) {
     }
 }
 
-fn print_offsets(rows: &[[u32; 11]; 16]) {
+fn print_offsets() {
     let mut n = 0;
     while n < 16 {
         let mut k = 0;
         while k < 11 {
             io::write_all(STDOUT_FILENO, b" ");
-            io::print_decimal(STDOUT_FILENO, wide(rows[n][k]));
+            io::print_decimal(STDOUT_FILENO, wide(mpvq_offset(n, k)));
             k += 1;
         }
         end_line();
@@ -97,7 +98,7 @@ fn main() {
     print_floats(&tables::sns_vq_reg_lf_adj_gains());
     print_floats(&tables::sns_vq_near_adj_gains());
     print_floats(&tables::sns_vq_far_adj_gains());
-    print_offsets(&tables::mpvq_offsets());
+    print_offsets();
     print_all_limits(true);
     print_all_limits(false);
 }

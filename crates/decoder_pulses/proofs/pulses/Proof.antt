@@ -23,7 +23,7 @@ mpvq-deenum-requires c κs =
     let s = c .before in
     let n = s .before .args .shape in
     let e = s .new .ensures in
-    (s .before .pre .0, places-most n _ e, pulses-most n _ e, front-length n _ e)
+    (places-most n _ e, pulses-most n _ e, front-length n _ e)
 
 set-b-requires : tie.Need-set-b-requires
 set-b-requires c κs = search needs
@@ -43,8 +43,7 @@ mpvq-deenum-requires-2 : tie.Need-mpvq-deenum-requires-2
 mpvq-deenum-requires-2 c κs =
     let b = c .before .set-b .ensures in
     let m = c .before .before .before .before in
-    let s = m .before .before in
-    (s .before .pre .0, rw b (lit≤ tt), rw b (lit< tt), back-length _ _ (s .new .ensures) _ _ 0 0 _ (m .mpvq-deenum .ensures) (c .before .before .if1 .taken) ∙ rw b)
+    (rw b (lit≤ tt), rw b (lit< tt), back-length _ _ (m .before .before .new .ensures) _ _ 0 0 _ (m .mpvq-deenum .ensures) (c .before .before .if1 .taken) ∙ rw b)
 
 returns : tie.Need-returns
 returns c =

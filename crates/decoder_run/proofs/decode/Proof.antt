@@ -6,9 +6,6 @@ use borrow.Author.Needs.{needs}
 use Rattle.decoder_run.proofs.decode.Statement.{statement}
 use Rattle.decoder_run.proofs.decode.Tie as tie
 
-mpvq-offsets-requires : tie.Need-mpvq-offsets-requires
-mpvq-offsets-requires c κs = search needs
-
 lfcb-requires : tie.Need-lfcb-requires
 lfcb-requires c κs = search needs
 
@@ -27,8 +24,8 @@ pulses-requires c κs = search needs
 factors-requires : tie.Need-factors-requires
 factors-requires c κs =
     let y = c .before .before .before .before .before in
-    let r = y .before .before in
-    let a = r .before .before .before .before .before in
+    let r = y .before in
+    let a = r .before .before .before .before in
     let i = a .args in (
       (r .before .before .before .lfcb .ensures, r .before .before .hfcb .ensures, r .before .d-by-columns .ensures, r .roots .ensures),
       subst (Accepted (i .low) (i .high) (i .shape) (i .gain)) (sym (y .pulses .ensures)) (accepted _ _ _ _ _ _ _ _ (a .pre)),
@@ -53,7 +50,6 @@ pub decode-spec : {M : Type 1} → statement M
 decode-spec =
     tie.close
     (tie.spec
-    mpvq-offsets-requires
     lfcb-requires
     hfcb-requires
     d-by-columns-requires

@@ -1,49 +1,60 @@
--- The invariant: the walk from `k` is the walk from the column reached. The measure is that column.
-use mathlib.Core.Path.{_≡_, refl, sym, _∙_}
-use Prim.Native.Nat.{_≤_, _-_, _<_}
+-- Three answers: further down than k - 1, at k - 1, and at k.
+use mathlib.Core.Path.{_≡_, _∙_}
+use Prim.Native.Nat.{_-_, _≤_}
 use borrow.Author.Needs.{needs}
 use native.Mathlib.Omega.{arith}
 use Rattle.numbering.specs.Numbering.{columnOf}
-use Rattle.numbering.proofs.Columns.{column-stays, column-falls}
+use Rattle.numbering.proofs.Columns.{column-stays, column-second, column-falls-twice, left-is}
 use Rattle.numbering.proofs.column.Statement.{statement}
 use Rattle.numbering.proofs.column.Tie as tie
 
-abbrev Inv-loop : tie.InvT-loop
-Inv-loop offsets n k ind start c = (c ≤ k) × (columnOf n k ind ≡ columnOf n c ind)
+mpvq-offset-requires : tie.Need-mpvq-offset-requires
+mpvq-offset-requires c κs = search needs
 
-abbrev μ-loop : tie.MeasureT-loop
-μ-loop offsets n k ind start c = c
+sub-mpvq-offset : tie.Need-sub-mpvq-offset
+sub-mpvq-offset c = search needs
 
-loop-holds : tie.Need-loop-holds Inv-loop μ-loop
-loop-holds c = (omega arith, refl)
+mpvq-offset-requires-2 : tie.Need-mpvq-offset-requires-2
+mpvq-offset-requires-2 c κs = search needs
 
-offset-requires : tie.Need-offset-requires Inv-loop μ-loop
-offset-requires c κs = search needs
-
--- the offset is above the index, so the column is not 0, and the walk goes on below it
-falls : (c : tie.Then1 Inv-loop μ-loop)
-    → (0 < c .before .before .loop .k-acc)
-    × (columnOf (c .before .before .before .args .n) (c .before .before .loop .k-acc) (c .before .before .before .args .ind)
-    ≡ columnOf (c .before .before .before .args .n) (c .before .before .loop .k-acc - 1) (c .before .before .before .args .ind))
+-- the offset at k - 1 is above the index, so the column is at most k - 2
+falls : (c : tie.Then1)
+    → (2 ≤ c .before .before .before .args .k)
+    × (columnOf (c .before .before .before .args .n) (c .before .before .before .args .k) (c .before .before .before .args .ind)
+    ≡ columnOf (c .before .before .before .args .n) (c .before .before .before .args .k - 2) (c .before .before .before .args .ind))
 falls c =
-    column-falls (c .before .before .before .args .n) (c .before .before .loop .k-acc) (c .before .before .before .args .ind)
-    (omega (arith, c .before .offset .ensures, c .if1 .taken))
+    column-falls-twice (c .before .before .before .args .n) (c .before .before .before .args .k) (c .before .before .before .args .ind)
+    (omega (arith, c .before .mpvq-offset2 .ensures, c .if1 .taken))
 
-sub-k-acc : tie.Need-sub-k-acc Inv-loop μ-loop
-sub-k-acc c = omega (arith, falls c .0)
+sub-column-down : tie.Need-sub-column-down
+sub-column-down c = falls c .0
 
-loop-less : tie.Need-loop-less Inv-loop μ-loop
-loop-less c = omega (arith, falls c .0)
+column-down-requires : tie.Need-column-down-requires
+column-down-requires c κs = search needs
 
-loop-again : tie.Need-loop-again Inv-loop μ-loop
-loop-again c = (omega arith, c .before .before .loop .inv .1 ∙ falls c .1)
+returns : tie.Need-returns
+returns c = rw (falls (c .before) .1) (c .column-down .ensures)
 
-returns : tie.Need-returns Inv-loop μ-loop
-returns c =
-    sym (c .before .before .loop .inv .1 ∙ column-stays (c .before .before .before .args .n) (c .before .before .loop .k-acc)
-    (c .before .before .before .args .ind) (omega (arith, c .before .offset .ensures, c .if1 .left)))
+sub-t9 : tie.Need-sub-t9
+sub-t9 c = search needs
+
+returns-2 : tie.Need-returns-2
+returns-2 c =
+    let o = c .before .before in
+    let a = o .before .before .args in
+    left-is (a .n) (a .k) (a .ind) (a .k - 1) (o .mpvq-offset2 .result)
+    (column-second (a .n) (a .k) (a .ind) (omega (arith, o .before .mpvq-offset .ensures, c .if2 .taken)) (omega (arith, o .mpvq-offset2 .ensures, c .before .if1 .left)))
+    (o .mpvq-offset2 .ensures)
+
+returns-3 : tie.Need-returns-3
+returns-3 c =
+    let o = c .before .before .before in
+    let a = o .before .args in
+    left-is (a .n) (a .k) (a .ind) (a .k) (o .mpvq-offset .result) (column-stays (a .n) (a .k) (a .ind) (omega (arith, o .mpvq-offset .ensures, c .if2 .left)))
+    (o .mpvq-offset .ensures)
 
 pub column-spec : {M : Type 1} → statement M
 column-spec =
     tie.close
-    (tie.spec Inv-loop μ-loop loop-holds offset-requires sub-k-acc loop-less loop-again returns)
+    (tie.spec mpvq-offset-requires sub-mpvq-offset mpvq-offset-requires-2 sub-column-down column-down-requires returns sub-t9
+    returns-2 returns-3)

@@ -17,11 +17,11 @@ use Rattle.numbering.proofs.mvpq_enum.Statement.{statement}
 use Rattle.numbering.proofs.mvpq_enum.Tie as tie
 
 abbrev Inv-loop : tie.InvT-loop
-Inv-loop offsets v index₀ sign₀ k₀ at₀ index sign k at =
+Inv-loop v index₀ sign₀ k₀ at₀ index sign k at =
     (at ≤ length v) × (index ≡ indexOf (drop at v)) × (sign ≡ leadSign (drop at v)) × (k ≡ pulsesOf (drop at v))
 
 abbrev μ-loop : tie.MeasureT-loop
-μ-loop offsets v index₀ sign₀ k₀ at₀ index sign k at = at
+μ-loop v index₀ sign₀ k₀ at₀ index sign k at = at
 
 loop-holds : tie.Need-loop-holds Inv-loop μ-loop
 unfolding indexOf leadSign pulsesOf
@@ -57,15 +57,15 @@ fits : (c : tie.In-loop Inv-loop μ-loop)
 fits c =
     let l = c .before in
     more-fits (l .before .args .v .now) (l .loop .pos) (l .loop .index) (l .loop .next-sign) (l .loop .k-val-acc) (c .loop-test .taken)
-    (l .loop .inv .0) (l .loop .inv .1) (l .loop .inv .2) (l .loop .inv .3) (l .before .pre .1) (l .before .pre .2)
+    (l .loop .inv .0) (l .loop .inv .1) (l .loop .inv .2) (l .loop .inv .3) (l .before .pre .0) (l .before .pre .1)
 
 enc-push-sign-requires : tie.Need-enc-push-sign-requires Inv-loop μ-loop
 enc-push-sign-requires c κs = omega (arith, fits (c .before))
 
-offset-requires : tie.Need-offset-requires Inv-loop μ-loop
-offset-requires c κs =
+mpvq-offset-requires : tie.Need-mpvq-offset-requires Inv-loop μ-loop
+mpvq-offset-requires c κs =
     let l = c .before .before .before in
-    (search needs, omega (arith, l .before .pre .1), omega (arith, l .loop .inv .3, fewer (l .before .args .v .now) (l .loop .pos), l .before .pre .2))
+    (omega (arith, l .before .pre .0), omega (arith, l .loop .inv .3, fewer (l .before .args .v .now) (l .loop .pos), l .before .pre .1))
 
 add-index : tie.Need-add-index Inv-loop μ-loop
 unfolding element
@@ -77,7 +77,7 @@ add-index c =
             arith,
             c .before .before .enc-push-sign .ensures .0,
             pushed-most (toZ w32 (ofZ w32 (element (c .before .before .before)))) (l .loop .index) (l .loop .next-sign),
-            c .before .offset .ensures,
+            c .before .mpvq-offset .ensures,
             fits (c .before .before .before .before),
           );
     }
@@ -99,7 +99,7 @@ pulses c =
 add-k-val-acc : tie.Need-add-k-val-acc Inv-loop μ-loop
 add-k-val-acc c =
     let l = c .before .before .before .before .before .before in
-    record { fits = omega (arith, pulses c, fewer (l .before .args .v .now) (l .loop .pos - 1), l .before .pre .2) }
+    record { fits = omega (arith, pulses c, fewer (l .before .args .v .now) (l .loop .pos - 1), l .before .pre .1) }
 
 loop-less : tie.Need-loop-less Inv-loop μ-loop
 loop-less c = omega arith
@@ -116,7 +116,7 @@ loop-again c =
       omega (
         arith,
         p .0 ∙ ap (λ x. pushed x (l .loop .index) (l .loop .next-sign)) r,
-        c .before .before .offset .ensures,
+        c .before .before .mpvq-offset .ensures,
         more-index v (l .loop .pos) (l .loop .index) (l .loop .next-sign) (l .loop .k-val-acc) t (l .loop .inv .0) (l .loop .inv .1) (l .loop .inv .2) (l .loop .inv .3),
       ),
       p .1 ∙ ap (λ x. signBefore x (l .loop .next-sign)) r ∙ more-sign v (l .loop .pos) (l .loop .index) (l .loop .next-sign) (l .loop .k-val-acc) t (l .loop .inv .0) (l .loop .inv .1) (l .loop .inv .2) (l .loop .inv .3),
@@ -131,5 +131,5 @@ returns c =
 pub mvpq-enum-spec : {M : Type 1} → statement M
 mvpq-enum-spec =
     tie.close
-    (tie.spec Inv-loop μ-loop loop-holds sub-n sub-pos mul-val shared-slice-copy-out-val enc-push-sign-requires offset-requires
+    (tie.spec Inv-loop μ-loop loop-holds sub-n sub-pos mul-val shared-slice-copy-out-val enc-push-sign-requires mpvq-offset-requires
     add-index magnitude-requires add-k-val-acc loop-less loop-again returns)

@@ -6,9 +6,6 @@ use Rattle.stage2.proofs.Cases.{part-0, part-1, part-2, room-a, room-b,
 use Rattle.stage2.proofs.enumerate.Statement.{statement}
 use Rattle.stage2.proofs.enumerate.Tie as tie
 
-mpvq-offsets-requires : tie.Need-mpvq-offsets-requires
-mpvq-offsets-requires c κs = search needs
-
 sub-mvpq-enum : tie.Need-sub-mvpq-enum
 sub-mvpq-enum c = search needs
 
@@ -20,9 +17,8 @@ part-mvpq-enum-end c = search needs
 
 mvpq-enum-requires : tie.Need-mvpq-enum-requires
 mvpq-enum-requires c κs =
-    let s = c .before .before .before in
-    let r = room-a _ 10 _ (lit≤ tt) (s .before .before .pre .1) (part-0 _ _ (s .if1 .taken)) in
-    (s .before .mpvq-offsets .ensures, r .0, r .1)
+    let s = c .before .before in
+    room-a _ 10 _ (lit≤ tt) (s .before .pre .1) (part-0 _ _ (s .if1 .taken))
 
 sub-mvpq-enum-2 : tie.Need-sub-mvpq-enum-2
 sub-mvpq-enum-2 c = search needs
@@ -35,14 +31,13 @@ part-mvpq-enum-end-2 c = search needs
 
 mvpq-enum-requires-2 : tie.Need-mvpq-enum-requires-2
 mvpq-enum-requires-2 c κs =
-    let s = c .before .before .before .before .before .before .before in
-    let r = room-b _ _ (s .before .before .pre .1) (s .if1 .taken) in
-    (s .before .mpvq-offsets .ensures, r .0, r .1)
+    let s = c .before .before .before .before .before in
+    room-b _ _ (s .before .pre .1) (s .if1 .taken)
 
 returns : tie.Need-returns
 returns c =
-    let s = c .before .before .before .before .before .before .before .before in
-    let a = c .before .before .before .before .mvpq-enum .ensures in
+    let s = c .before .before .before .before .before .before in
+    let a = c .before .before .before .mvpq-enum .ensures in
     numbers-0 _ _ _ _ _ _ (s .if1 .taken) (a .0) (a .1) (c .mvpq-enum2 .ensures .0) (c .mvpq-enum2 .ensures .1)
 
 sub-mvpq-enum-3 : tie.Need-sub-mvpq-enum-3
@@ -56,13 +51,12 @@ part-mvpq-enum-end-3 c = search needs
 
 mvpq-enum-requires-3 : tie.Need-mvpq-enum-requires-3
 mvpq-enum-requires-3 c κs =
-    let s = c .before .before .before in
-    let r = room-a _ 10 _ (lit≤ tt) (s .before .before .before .pre .1) (part-1 _ _ (s .if2 .taken)) in
-    (s .before .before .mpvq-offsets .ensures, r .0, r .1)
+    let s = c .before .before in
+    room-a _ 10 _ (lit≤ tt) (s .before .before .pre .1) (part-1 _ _ (s .if2 .taken))
 
 returns-2 : tie.Need-returns-2
 returns-2 c =
-    let s = c .before .before .before .before in
+    let s = c .before .before .before in
     numbers-other _ _ _ _ _ (s .before .if1 .left) (part-1 _ _ (s .if2 .taken)) (c .mvpq-enum3 .ensures .0) (c .mvpq-enum3 .ensures .1)
 
 slice-aggregate-mvpq-enum : tie.Need-slice-aggregate-mvpq-enum
@@ -70,22 +64,20 @@ slice-aggregate-mvpq-enum c = search needs
 
 mvpq-enum-requires-4 : tie.Need-mvpq-enum-requires-4
 mvpq-enum-requires-4 c κs =
-    let s = c .before .before in
-    let p = s .before .before .before .pre .1 in
-    let r = room-all _ _ p (part-2 _ _ (p .places) (s .before .if1 .left) (s .if2 .left)) in
-    (s .before .before .mpvq-offsets .ensures, r .0, r .1)
+    let s = c .before in
+    let p = s .before .before .pre .1 in
+    room-all _ _ p (part-2 _ _ (p .places) (s .before .if1 .left) (s .if2 .left))
 
 returns-3 : tie.Need-returns-3
 returns-3 c =
-    let s = c .before .before .before in
-    let p = s .before .before .before .pre .1 in
+    let s = c .before .before in
+    let p = s .before .before .pre .1 in
     numbers-other _ _ _ _ _ (s .before .if1 .left) (part-2 _ _ (p .places) (s .before .if1 .left) (s .if2 .left)) (c .mvpq-enum4 .ensures .0) (c .mvpq-enum4 .ensures .1)
 
 pub enumerate-spec : {M : Type 1} → statement M
 enumerate-spec =
     tie.close
     (tie.spec
-    mpvq-offsets-requires
     sub-mvpq-enum
     part-mvpq-enum-start
     part-mvpq-enum-end

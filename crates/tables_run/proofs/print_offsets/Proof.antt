@@ -5,16 +5,16 @@ use Rattle.tables_run.proofs.print_offsets.Statement.{statement}
 use Rattle.tables_run.proofs.print_offsets.Tie as tie
 
 abbrev Inv-loop2 : tie.InvT-loop2
-Inv-loop2 rows n k₀ t4 k = n < 16
+Inv-loop2 n k₀ t2 k = n < 16
 
 abbrev μ-loop2 : tie.MeasureT-loop2
-μ-loop2 rows n k₀ t4 k = 11 - k
+μ-loop2 n k₀ t2 k = 11 - k
 
 abbrev Inv-loop : tie.InvT-loop
-Inv-loop rows n₀ t4 n = Unit
+Inv-loop n₀ t2 n = Unit
 
 abbrev μ-loop : tie.MeasureT-loop
-μ-loop rows n₀ t4 n = 16 - n
+μ-loop n₀ t2 n = 16 - n
 
 loop-holds : tie.Need-loop-holds Inv-loop2 μ-loop2 Inv-loop μ-loop
 loop-holds c = search needs
@@ -28,17 +28,8 @@ slice-aggregate-write-all c = search needs
 write-all-requires : tie.Need-write-all-requires Inv-loop2 μ-loop2 Inv-loop μ-loop
 write-all-requires c κs = search needs
 
-mul-wide : tie.Need-mul-wide Inv-loop2 μ-loop2 Inv-loop μ-loop
-mul-wide c = search needs
-
-mul-wide-2 : tie.Need-mul-wide-2 Inv-loop2 μ-loop2 Inv-loop μ-loop
-mul-wide-2 c = search needs
-
-index-1-wide : tie.Need-index-1-wide Inv-loop2 μ-loop2 Inv-loop μ-loop
-index-1-wide c = search needs
-
-index-2-wide : tie.Need-index-2-wide Inv-loop2 μ-loop2 Inv-loop μ-loop
-index-2-wide c = search needs
+mpvq-offset-requires : tie.Need-mpvq-offset-requires Inv-loop2 μ-loop2 Inv-loop μ-loop
+mpvq-offset-requires c κs = search needs
 
 wide-requires : tie.Need-wide-requires Inv-loop2 μ-loop2 Inv-loop μ-loop
 wide-requires c κs = search needs
@@ -82,10 +73,7 @@ print-offsets-spec =
     loop2-holds
     slice-aggregate-write-all
     write-all-requires
-    mul-wide
-    mul-wide-2
-    index-1-wide
-    index-2-wide
+    mpvq-offset-requires
     wide-requires
     print-decimal-requires
     add-k

@@ -40,22 +40,17 @@ returns-3 c =
     let s = set-is (p .before .before .before .before) in
     no-6 _ _ _ (s .pair) (p .before .if1 .left ∙ s .dimension) (λ q. c .if2 .taken (p .pulses .ensures ∙ q ∙ sym (s .pulses)))
 
-mpvq-offsets-requires : tie.Need-mpvq-offsets-requires
-mpvq-offsets-requires c κs = search needs
-
 mvpq-enum-requires : tie.Need-mvpq-enum-requires
 mvpq-enum-requires c κs =
-    let e = c .before .before in
-    let p = e .before .before in
+    let p = c .before .before in
     let s = set-is (p .before .before .before .before) in (
-      c .before .mpvq-offsets .ensures,
       omega (arith, s .dimension, s .small .places, p .before .if1 .left),
-      omega (arith, s .pulses, s .small .few, p .pulses .ensures, e .if2 .left),
+      omega (arith, s .pulses, s .small .few, p .pulses .ensures, c .if2 .left),
     )
 
 returns-4 : tie.Need-returns-4
 returns-4 c =
-    let e = c .before .before .before in
+    let e = c .before in
     let p = e .before .before in
     let s = set-is (p .before .before .before .before) in
     ap₂ At (c .mvpq-enum .ensures .0) (c .mvpq-enum .ensures .1)
@@ -64,4 +59,4 @@ returns-4 c =
 pub pack-spec : {M : Type 1} → statement M
 pack-spec =
     tie.close
-    (tie.spec find-requires enum-known-set enum-told returns returns-2 pulses-requires returns-3 mpvq-offsets-requires mvpq-enum-requires returns-4)
+    (tie.spec find-requires enum-known-set enum-told returns returns-2 pulses-requires returns-3 mvpq-enum-requires returns-4)

@@ -39,14 +39,10 @@ returns-4 c =
     let s = set-is (e .before .before .before .before) in
     (no-5 _ _ _ _ _ (s .pair) (e .before .if1 .left ∙ s .dimension) (e .if2 .left) (omega (arith, s .size, c .if3 .taken)), refl)
 
-mpvq-offsets-requires : tie.Need-mpvq-offsets-requires
-mpvq-offsets-requires c κs = search needs
-
 mpvq-deenum-requires : tie.Need-mpvq-deenum-requires
 mpvq-deenum-requires c κs =
-    let e = c .before .before .before .before .before .before in
+    let e = c .before .before .before .before in
     let s = set-is (e .before .before .before) in (
-      c .before .before .mpvq-offsets .ensures,
       omega (arith, s .dimension, s .small .places),
       omega (arith, s .pulses, s .small .few),
       e .if1 .left,
@@ -57,7 +53,7 @@ same-length c = search needs
 
 returns-5 : tie.Need-returns-5
 returns-5 c =
-    let l = c .before .before .before .before .before in
+    let l = c .before .before .before in
     let e = l .before .before in
     let s = set-is (e .before .before .before .before) in (
       taken _ _ _ _ _ (s .pair) (e .before .if1 .left ∙ s .dimension) (e .if2 .left) (omega (arith, s .size, l .if3 .left)),
@@ -67,4 +63,4 @@ returns-5 c =
 pub unpack-spec : {M : Type 1} → statement M
 unpack-spec =
     tie.close
-    (tie.spec find-requires enum-known-set enum-told returns returns-2 returns-3 returns-4 mpvq-offsets-requires mpvq-deenum-requires same-length returns-5)
+    (tie.spec find-requires enum-known-set enum-told returns returns-2 returns-3 returns-4 mpvq-deenum-requires same-length returns-5)
