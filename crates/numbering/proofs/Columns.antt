@@ -5,7 +5,7 @@ use mathlib.Core.Logic.{_⊎_, inl, inr}
 use Prim.Native.Nat.{ℕ, zero, suc, _-_, _≤_, _<_}
 use native.Mathlib.Nat.{eq-or-lt-of-le}
 use native.Mathlib.Omega.{arith}
-use borrow.Author.Tests.{leb-true, leb-false, lt-leb}
+use borrow.Author.Tests.{leb-true, leb-false}
 use lib.Dec.{leb}
 use Rattle.sns_tables.specs.Offsets.{offsetOf}
 use Rattle.numbering.specs.Numbering.{choose, columnOf}
@@ -47,27 +47,36 @@ column-zero n k = column-is n k 0 0 (record { within = omega arith; low = omega 
 pub column-stays : (n k i : ℕ) → offsetOf n k ≤ i → columnOf n k i ≡ k
 column-stays n k i h = column-is n k i k (record { within = omega arith; low = h; high = λ q. absurd (omega arith) })
 
-pub column-falls : (n k i : ℕ) → i < offsetOf n k → (0 < k) × (columnOf n k i ≡ columnOf n (k - 1) i)
-unfolding columnOf
-column-falls n zero i h = absurd (omega (arith, first n))
-column-falls n (suc k) i h =
-    let e : suc k - 1 ≡ k = omega arith in
-    (omega arith, rw (e, lt-leb (offsetOf n (suc k)) i h))
+-- a column m whose offset is above the index is not 0, and the one found is below it
+pub column-falls : (n k m i : ℕ) → m ≤ k → i < offsetOf n m → (0 < m) × (columnOf n k i ≡ columnOf n (m - 1) i)
+column-falls n k zero i l h = absurd (omega (arith, first n))
+column-falls n k (suc j) i l h =
+    let c = column n j i in
+    let e : suc j - 1 ≡ j = omega arith in
+    (omega arith, rw e (column-is n k i (columnOf n j i) (record { within = omega (arith, c .within); low = c .low; high = λ q. last c (eq-or-lt-of-le (c .within)) })))
+  where
+    last : Column n j i (columnOf n j i) → (columnOf n j i ≡ j) ⊎ (columnOf n j i < j) → i < offsetOf n (suc (columnOf n j i))
+    last c (inl p) = rw p h
+    last c (inr q) = c .high q
 
--- two columns at a time: the offset below is no greater
-pub column-falls-twice : (n k i : ℕ) → i < offsetOf n (k - 1) → (2 ≤ k) × (columnOf n k i ≡ columnOf n (k - 2) i)
-column-falls-twice n k i h =
-    let (p, a) = column-falls n (k - 1) i h in
-    let (q, b) = column-falls n k i (omega (arith, mono n (k - 1) k (omega arith))) in
-    let e : k - 1 - 1 ≡ k - 2 = omega arith in
-    (omega arith, b ∙ a ∙ rw e)
+-- a column c that is the one found, with its offset o
+pub record Found (n k i c o : ℕ) : Type 0 where
+  pub is : columnOf n k i ≡ c
+  pub offset : o ≡ offsetOf n c
+  pub low : o ≤ i
 
-pub column-second : (n k i : ℕ) → i < offsetOf n k → offsetOf n (k - 1) ≤ i → columnOf n k i ≡ k - 1
-column-second n k i h l = column-falls n k i h .1 ∙ column-stays n (k - 1) i l
+pub found-here : (n k i o : ℕ) → o ≡ offsetOf n k → o ≤ i → Found n k i k o
+found-here n k i o e l = record { is = column-stays n k i (omega arith); offset = e; low = l }
 
--- a column that is the one found, with its offset: what is left of the index
-pub left-is : (n k i c o : ℕ) → columnOf n k i ≡ c → o ≡ offsetOf n c → (c ≡ columnOf n k i) × (i - o ≡ i - offsetOf n (columnOf n k i))
-left-is n k i c o p q = (sym p, rw (q, p))
+-- the offset p of the column above c is above the index, that of c is not
+pub found-next : (n k i c o p : ℕ) → suc c ≤ k → p ≡ offsetOf n (suc c) → i < p → o ≡ offsetOf n c → o ≤ i → Found n k i c o
+found-next n k i c o p l f h e g =
+    let z : suc c - 1 ≡ c = omega arith in
+    record { is = (rw z at (column-falls n k (suc c) i l (omega arith) .1)) ∙ column-stays n c i (omega arith); offset = e; low = g }
+
+-- what is left of the index
+pub left-is : (n k i c o : ℕ) → Found n k i c o → (c ≡ columnOf n k i) × (i - o ≡ i - offsetOf n (columnOf n k i))
+left-is n k i c o f = (sym (f .is), rw (f .offset, f .is))
 
 pub column-within : (n k i : ℕ) → columnOf n k i ≤ k
 column-within n k i = column n k i .within

@@ -9,6 +9,7 @@ ghost use lib.ListN.{length, take, set, replicate};
 ghost use Rattle.sns_tables.specs.Offsets.{offsetOf};
 ghost use Rattle.numbering.specs.Numbering.{pulsesOf, leadSign, signBefore, pushed, indexOf, columnOf, signed, nextSign, nextIndex, vectorAt};
 use sns_tables::mpvq_offsets::mpvq_offset;
+use sns_tables::mpvq_offsets::offset_at;
 
 // An index with its lead sign.
 pub struct Numbered {
@@ -87,7 +88,8 @@ struct Left {
     rest: u32,
 }
 
-// The column and the rest, by one column after the other. Column 0 has offset 0, so the walk ends there at the latest.
+// The column and the rest (see `column`) by a walk, one column after the other. Column 0 has offset 0, so the walk ends
+// there at the latest.
 fn column_down(n: usize, k: usize, ind: u32) -> Left
     requires { ⌜ (n < 16) × (k < 11) ⌝ }
     ensures { λ r. ⌜ (r .pulses ≡ columnOf n k ind) × (r .rest ≡ ind - offsetOf n (columnOf n k ind)) ⌝ }
@@ -105,25 +107,33 @@ fn column_down(n: usize, k: usize, ind: u32) -> Left
 }
 
 // The greatest column, from k down, whose offset is at most the index: the pulses left after a place; and the rest of the
-// index. Both k and k - 1 are looked at before any walk: the offsets of a row never fall from column to column.
+// index. Columns k, k - 1 and k - 2, which stand side by side in the table, are looked at before any walk. The offsets of a
+// row never fall from column to column, so one question sends the walk further down, and the other two, which only set two
+// numbers, need no branch.
 fn column(n: usize, k: usize, ind: u32) -> Left
-    requires { ⌜ (n < 16) × (k < 11) × (0 < k) ⌝ }
+    requires { ⌜ (n < 16) × (k < 11) × (2 ≤ k) ⌝ }
     ensures { λ r. ⌜ (r .pulses ≡ columnOf n k ind) × (r .rest ≡ ind - offsetOf n (columnOf n k ind)) ⌝ }
 {
-    let first = mpvq_offset(n, k);
-    let second = mpvq_offset(n, k - 1);
-    if ind < second {
-        return column_down(n, k - 2, ind);
+    let at = 11 * n + k;
+    let first = offset_at(at);
+    let second = offset_at(at - 1);
+    let third = offset_at(at - 2);
+    if ind < third {
+        return column_down(n, k - 3, ind);
     }
+    let mut pulses = k;
+    let mut offset = first;
     if ind < first {
-        return Left {
-            pulses: k - 1,
-            rest: ind - second,
-        };
+        pulses = k - 1;
+        offset = second;
+    }
+    if ind < second {
+        pulses = k - 2;
+        offset = third;
     }
     Left {
-        pulses: k,
-        rest: ind - first,
+        pulses,
+        rest: ind - offset,
     }
 }
 
@@ -170,7 +180,8 @@ fn at_one_place(out: &mut [i32], from: usize, k: usize, sign: u32, ind: u32)
     clear(out, from);
     let place = from + ind as usize;
     if place < out.len() {
-        out[place] = mind2vec_one(k, sign);
+        let val = mind2vec_one(k, sign);
+        out[place] = val;
     }
 }
 

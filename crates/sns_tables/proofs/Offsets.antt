@@ -72,12 +72,16 @@ entry (suc n) (suc k) h l =
     under : {i j : ℕ} → suc i < j → i < j
     under q = omega arith
 
--- x is A(n,k), if it is the entry at that place of all 176, row by row: the one law behind every arm of the code's `match`
-pub arm : (n k place x : ℕ) → n < 16 → k < 11 → 11 * n + k ≡ place → x ≡ entryAt (place / 11) (place % 11) → x ≡ offsetOf n k
-arm n k place x h l e p =
+-- A(n,k) stands at the place 11 n + k of all 176, row by row
+pub at-place : (n k place : ℕ) → k < 11 → place ≡ 11 * n + k → offsetOf (place / 11) (place % 11) ≡ offsetOf n k
+at-place n k place l e =
     let a : place / 11 ≡ n = omega arith in
     let b : place % 11 ≡ k = omega arith in
-    (rw (a, b) at p) ∙ entry n k h l
+    rw (a, b)
+
+-- x is the offset at a place, if it is the table's entry there: the one law behind every arm of the code's `match`
+pub arm : (place key x : ℕ) → place < 176 → place ≡ key → x ≡ entryAt (key / 11) (key % 11) → x ≡ offsetOf (place / 11) (place % 11)
+arm place key x h e p = p ∙ rw (← e) (entry (place / 11) (place % 11) (omega arith) (omega arith))
 
 -- the table's entries, and so its recurrence
 table-entry : (n k : ℕ) → n < 16 → k < 11 → entryOf offsetTable n k ≡ offsetOf n k

@@ -1,15 +1,23 @@
 // The pulse offsets A(n,k), one number at a time. A `match` that gives constants is read in memory, where a constant array
 // would be stored on the stack at each call.
 ghost use mathlib.Core.Path.{_≡_};
-ghost use Prim.Native.Nat.{_<_};
+ghost use Prim.Native.Nat.{_<_, _/_, _%_};
 ghost use Rattle.sns_tables.specs.Offsets.{offsetOf};
 
-// A(n,k): row n, column k. Its place among all 176, row by row, is 11 n + k.
+// A(n,k): row n, column k.
 pub fn mpvq_offset(n: usize, k: usize) -> u32
     requires { ⌜ (n < 16) × (k < 11) ⌝ }
     ensures { λ r. ⌜ r ≡ offsetOf n k ⌝ }
 {
-    match 11 * n + k {
+    offset_at(11 * n + k)
+}
+
+// The offset at a place among all 176, row by row: A(n,k) stands at 11 n + k. For a caller that reads several in a row.
+pub fn offset_at(place: usize) -> u32
+    requires { ⌜ place < 176 ⌝ }
+    ensures { λ r. ⌜ r ≡ offsetOf (place / 11) (place % 11) ⌝ }
+{
+    match place {
         // row 0
         0 => 0,
         1 => 1,

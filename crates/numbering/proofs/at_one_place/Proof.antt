@@ -33,11 +33,11 @@ add-place c = search needs
 mind2vec-one-requires : tie.Need-mind2vec-one-requires
 mind2vec-one-requires c κs = search needs
 
-mul-t13 : tie.Need-mul-t13
-mul-t13 c = search needs
+mul-val : tie.Need-mul-val
+mul-val c = search needs
 
-slice-set-from-out : tie.Need-slice-set-from-out
-slice-set-from-out c = search needs
+slice-set-from-val : tie.Need-slice-set-from-val
+slice-set-from-val c = search needs
 
 same-length : tie.Need-same-length
 same-length c = search needs
@@ -59,4 +59,4 @@ returns-2 c =
 pub at-one-place-spec : {M : Type 1} → statement M
 at-one-place-spec =
     tie.close
-    (tie.spec clear-requires add-place mind2vec-one-requires mul-t13 slice-set-from-out same-length returns same-length-2 returns-2)
+    (tie.spec clear-requires add-place mind2vec-one-requires mul-val slice-set-from-val same-length returns same-length-2 returns-2)

@@ -1,30 +1,63 @@
--- Three answers: further down than k - 1, at k - 1, and at k.
-use mathlib.Core.Path.{_≡_, _∙_}
-use Prim.Native.Nat.{_-_, _≤_}
+-- Three columns are read: the one found is k, k - 1, k - 2, or further down.
+use mathlib.Core.Path.{_≡_, refl, ap, _∙_}
+use mathlib.Core.Logic.{⊎-elim}
+use Prim.Native.Nat.{suc, _-_, _≤_}
 use borrow.Author.Needs.{needs}
 use native.Mathlib.Omega.{arith}
+use Rattle.sns_tables.specs.Offsets.{offsetOf}
+use Rattle.sns_tables.proofs.Offsets.{at-place}
 use Rattle.numbering.specs.Numbering.{columnOf}
-use Rattle.numbering.proofs.Columns.{column-stays, column-second, column-falls-twice, left-is}
+use Rattle.numbering.proofs.Columns.{column-falls, Found, found-here, found-next, left-is}
 use Rattle.numbering.proofs.column.Statement.{statement}
 use Rattle.numbering.proofs.column.Tie as tie
 
-mpvq-offset-requires : tie.Need-mpvq-offset-requires
-mpvq-offset-requires c κs = search needs
+mul-at : tie.Need-mul-at
+mul-at c = search needs
 
-sub-mpvq-offset : tie.Need-sub-mpvq-offset
-sub-mpvq-offset c = search needs
+add-at : tie.Need-add-at
+add-at c = search needs
 
-mpvq-offset-requires-2 : tie.Need-mpvq-offset-requires-2
-mpvq-offset-requires-2 c κs = search needs
+offset-at-requires : tie.Need-offset-at-requires
+offset-at-requires c κs = search needs
 
--- the offset at k - 1 is above the index, so the column is at most k - 2
+sub-offset-at : tie.Need-sub-offset-at
+sub-offset-at c = search needs
+
+offset-at-requires-2 : tie.Need-offset-at-requires-2
+offset-at-requires-2 c κs = search needs
+
+sub-offset-at-2 : tie.Need-sub-offset-at-2
+sub-offset-at-2 c = search needs
+
+offset-at-requires-3 : tie.Need-offset-at-requires-3
+offset-at-requires-3 c κs = search needs
+
+-- the offsets that were read
+first : (c : tie.After-offset-at3) → c .before .before .offset-at .result ≡ offsetOf (c .before .before .before .args .n) (c .before .before .before .args .k)
+first c =
+    let a = c .before .before .before .args in
+    c .before .before .offset-at .ensures ∙ at-place (a .n) (a .k) _ (search needs) refl
+
+second : (c : tie.After-offset-at3) → c .before .offset-at2 .result ≡ offsetOf (c .before .before .before .args .n) (c .before .before .before .args .k - 1)
+second c =
+    let a = c .before .before .before .args in
+    c .before .offset-at2 .ensures ∙ at-place (a .n) (a .k - 1) _ (omega arith) (omega arith)
+
+third : (c : tie.After-offset-at3) → c .offset-at3 .result ≡ offsetOf (c .before .before .before .args .n) (c .before .before .before .args .k - 2)
+third c =
+    let a = c .before .before .before .args in
+    c .offset-at3 .ensures ∙ at-place (a .n) (a .k - 2) _ (omega arith) (omega arith)
+
+-- the offset at k - 2 is above the index, so the column is at most k - 3
 falls : (c : tie.Then1)
-    → (2 ≤ c .before .before .before .args .k)
-    × (columnOf (c .before .before .before .args .n) (c .before .before .before .args .k) (c .before .before .before .args .ind)
-    ≡ columnOf (c .before .before .before .args .n) (c .before .before .before .args .k - 2) (c .before .before .before .args .ind))
+    → (3 ≤ c .before .before .before .before .args .k)
+    × (columnOf (c .before .before .before .before .args .n) (c .before .before .before .before .args .k) (c .before .before .before .before .args .ind)
+    ≡ columnOf (c .before .before .before .before .args .n) (c .before .before .before .before .args .k - 3) (c .before .before .before .before .args .ind))
 falls c =
-    column-falls-twice (c .before .before .before .args .n) (c .before .before .before .args .k) (c .before .before .before .args .ind)
-    (omega (arith, c .before .mpvq-offset2 .ensures, c .if1 .taken))
+    let a = c .before .before .before .before .args in
+    let (p, q) = column-falls (a .n) (a .k) (a .k - 2) (a .ind) (omega arith) (omega (arith, third (c .before), c .if1 .taken)) in
+    let e : a .k - 2 - 1 ≡ a .k - 3 = omega arith in
+    (omega arith, q ∙ rw e)
 
 sub-column-down : tie.Need-sub-column-down
 sub-column-down c = falls c .0
@@ -35,26 +68,38 @@ column-down-requires c κs = search needs
 returns : tie.Need-returns
 returns c = rw (falls (c .before) .1) (c .column-down .ensures)
 
-sub-t9 : tie.Need-sub-t9
-sub-t9 c = search needs
+sub-pulses : tie.Need-sub-pulses
+sub-pulses c = search needs
+
+sub-pulses-2 : tie.Need-sub-pulses-2
+sub-pulses-2 c = search needs
+
+-- the column that was found, by the way that led here
+found : (j : tie.Joined3)
+    → Found (j .before .before .before .before .before .before .args .n) (j .before .before .before .before .before .before .args .k)
+    (j .before .before .before .before .before .before .args .ind) (j .if3 .pulses) (j .if3 .offset)
+found j =
+    let e = j .before .before in
+    let o = e .before in
+    let a = o .before .before .before .args in
+    let f : o .before .before .offset-at .result ≡ offsetOf (a .n) (suc (a .k - 1)) = first o ∙ ap (offsetOf (a .n)) (omega arith) in
+    let s : o .before .offset-at2 .result ≡ offsetOf (a .n) (suc (a .k - 2)) = second o ∙ ap (offsetOf (a .n)) (omega arith) in
+    ⊎-elim
+    (λ w. rw (w .1, w .2) (found-next (a .n) (a .k) (a .ind) (a .k - 2) (o .offset-at3 .result) (o .before .offset-at2 .result) (omega arith) s (w .0 .taken) (third o) (e .if1 .left)))
+    (λ w. rw (w .1, w .2) (⊎-elim
+    (λ v. rw (v .1, v .2) (found-next (a .n) (a .k) (a .ind) (a .k - 1) (o .before .offset-at2 .result) (o .before .before .offset-at .result) (omega arith) f (v .0 .taken) (second o) (w .0 .left)))
+    (λ v. rw (v .1, v .2) (found-here (a .n) (a .k) (a .ind) (o .before .before .offset-at .result) (first o) (v .0 .left)))
+    (j .before .if2 .came)))
+    (j .if3 .came)
+
+sub-t13 : tie.Need-sub-t13
+sub-t13 c = found (c .before) .low
 
 returns-2 : tie.Need-returns-2
-returns-2 c =
-    let o = c .before .before in
-    let a = o .before .before .args in
-    left-is (a .n) (a .k) (a .ind) (a .k - 1) (o .mpvq-offset2 .result)
-    (column-second (a .n) (a .k) (a .ind) (omega (arith, o .before .mpvq-offset .ensures, c .if2 .taken)) (omega (arith, o .mpvq-offset2 .ensures, c .before .if1 .left)))
-    (o .mpvq-offset2 .ensures)
-
-returns-3 : tie.Need-returns-3
-returns-3 c =
-    let o = c .before .before .before in
-    let a = o .before .args in
-    left-is (a .n) (a .k) (a .ind) (a .k) (o .mpvq-offset .result) (column-stays (a .n) (a .k) (a .ind) (omega (arith, o .mpvq-offset .ensures, c .if2 .left)))
-    (o .mpvq-offset .ensures)
+returns-2 c = left-is _ _ _ _ _ (found (c .before))
 
 pub column-spec : {M : Type 1} → statement M
 column-spec =
     tie.close
-    (tie.spec mpvq-offset-requires sub-mpvq-offset mpvq-offset-requires-2 sub-column-down column-down-requires returns sub-t9
-    returns-2 returns-3)
+    (tie.spec mul-at add-at offset-at-requires sub-offset-at offset-at-requires-2 sub-offset-at-2 offset-at-requires-3
+    sub-column-down column-down-requires returns sub-pulses sub-pulses-2 sub-t13 returns-2)

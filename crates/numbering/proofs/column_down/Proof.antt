@@ -27,8 +27,8 @@ falls : (c : tie.In-loop Inv-loop μ-loop)
     × (columnOf (c .before .before .before .args .n) (c .before .loop .k-acc) (c .before .before .before .args .ind)
     ≡ columnOf (c .before .before .before .args .n) (c .before .loop .k-acc - 1) (c .before .before .before .args .ind))
 falls c =
-    column-falls (c .before .before .before .args .n) (c .before .loop .k-acc) (c .before .before .before .args .ind)
-    (omega (arith, c .before .loop .inv .1, c .loop-test .taken))
+    column-falls (c .before .before .before .args .n) (c .before .loop .k-acc) (c .before .loop .k-acc) (c .before .before .before .args .ind)
+    (omega arith) (omega (arith, c .before .loop .inv .1, c .loop-test .taken))
 
 sub-k-acc : tie.Need-sub-k-acc Inv-loop μ-loop
 sub-k-acc c = omega (arith, falls c .0)
@@ -46,9 +46,11 @@ returns : tie.Need-returns Inv-loop μ-loop
 returns c =
     let n = c .before .before .before .args .n in
     let ind = c .before .before .before .args .ind in
-    left-is n (c .before .before .before .args .k) ind (c .before .loop .k-acc) (c .before .loop .offset)
-    (c .before .loop .inv .2 ∙ column-stays n (c .before .loop .k-acc) ind (omega (arith, c .before .loop .inv .1, c .loop-test .left)))
-    (c .before .loop .inv .1)
+    left-is n (c .before .before .before .args .k) ind (c .before .loop .k-acc) (c .before .loop .offset) (record {
+      is = c .before .loop .inv .2 ∙ column-stays n (c .before .loop .k-acc) ind (omega (arith, c .before .loop .inv .1, c .loop-test .left));
+      offset = c .before .loop .inv .1;
+      low = c .loop-test .left;
+    })
 
 pub column-down-spec : {M : Type 1} → statement M
 column-down-spec =
