@@ -26,7 +26,7 @@ test: kit
 	rt fmt --check
 	sh tests/rust_at_hand.sh sh tests/tables/record.sh --check
 	sh tests/rust_at_hand.sh sh tests/frames/record.sh --check
-	sh tests/rust_at_hand.sh $(MAKE) compare
+	COMPARE=short sh tests/rust_at_hand.sh $(MAKE) compare
 	sh tests/rust_at_hand.sh sh tests/bindings.sh
 	rt ci
 

@@ -3,7 +3,7 @@
 mod inputs;
 mod reference;
 
-use inputs::{any_float, Source};
+use inputs::{any_float, share, Source};
 use lc3::decoder::side_info::SnsVq;
 use lc3_sns::{raw, Fields};
 use reference::{bands, limits, shaped};
@@ -52,19 +52,18 @@ fn shaped_alike(rate: usize, ten_ms: bool, f: &SnsVq, s: &mut Source) -> bool {
 }
 
 fn main() {
-    const DECODES: usize = 1_000_000;
-    const SHAPED: usize = 20_000;
-    let bad: Vec<SnsVq> = inputs::fields().take(DECODES).filter(|f| !decoded(f)).collect();
-    println!("decoder: {DECODES} fields, as 64 and as 60 bands; {} differ", bad.len());
+    let (decodes, spectra) = (share(1_000_000), share(20_000));
+    let bad: Vec<SnsVq> = inputs::fields().take(decodes).filter(|f| !decoded(f)).collect();
+    println!("decoder: {decodes} fields, as 64 and as 60 bands; {} differ", bad.len());
     if let Some(f) = bad.first() {
         println!("  first: {f:?}");
     }
     let mut wrong = bad.len();
     for (rate, ten_ms) in (0..5).flat_map(|rate| [(rate, true), (rate, false)]) {
         let mut s = Source(10 * rate as u64 + ten_ms as u64);
-        let w = inputs::fields().take(SHAPED).filter(|f| !shaped_alike(rate, ten_ms, f, &mut s)).count();
+        let w = inputs::fields().take(spectra).filter(|f| !shaped_alike(rate, ten_ms, f, &mut s)).count();
         let (bands, last) = (limits(rate, ten_ms).len() - 1, limits(rate, ten_ms).last().unwrap());
-        println!("shaping: rate {rate}, {} ms, {bands} bands to line {last}: {SHAPED} spectra; {w} differ", if ten_ms { "10" } else { "7.5" });
+        println!("shaping: rate {rate}, {} ms, {bands} bands to line {last}: {spectra} spectra; {w} differ", if ten_ms { "10" } else { "7.5" });
         wrong += w;
     }
     std::process::exit((wrong > 0) as i32)

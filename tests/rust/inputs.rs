@@ -7,6 +7,11 @@ use lc3::tables::spec_noise_shape_quant_tables::{D, HFCB, LFCB, SNS_VQ_FAR_ADJ_G
 
 pub type Factors = [f32; 16];
 
+/// How many of so many inputs a run takes: all, or a tenth where COMPARE=short.
+pub fn share(of: usize) -> usize {
+    if std::env::var("COMPARE").is_ok_and(|how| how == "short") { of / 10 } else { of }
+}
+
 pub struct Distribution {
     pub name: &'static str,
     draw: fn(&mut Source) -> Factors,

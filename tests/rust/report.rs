@@ -1,7 +1,7 @@
 //! Two calls on every input of every distribution, bit for bit; and how a comparison ends.
 #![allow(dead_code)]
 use crate::calls::Call;
-use crate::inputs::{Factors, ALL, CORNERS};
+use crate::inputs::{share, Factors, ALL, CORNERS};
 
 /// A kind of input that is counted. Where the Rust is not followed on that kind, `instead` says what is right.
 pub struct Kind {
@@ -13,7 +13,7 @@ pub struct Kind {
 /// Compares, prints a line a distribution, and answers how many inputs differ that must not.
 pub fn compare(what: &str, ours: Call, rust: Call, kind: &Kind) -> usize {
     let corners = CORNERS.iter().map(|(name, bits)| (*name, vec![bits.map(f32::from_bits)]));
-    let drawn = ALL.iter().map(|d| (d.name, d.inputs(60_000).collect()));
+    let drawn = ALL.iter().map(|d| (d.name, d.inputs(share(60_000)).collect()));
     println!("{what:<44} {:>8} {:>26} {:>8}", "inputs", kind.name, "differ");
     let (mut all, mut some, mut excused, mut wrong) = (0, 0, 0, 0);
     for (name, xs) in drawn.chain(corners) {

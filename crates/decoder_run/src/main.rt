@@ -121,7 +121,7 @@ fn interpolations() {
     );
 }
 
-// The factors of decoder inputs: rows, shape, gain, and both signs and indices.
+// The bands of decoder inputs: rows, shape, gain, and both signs and indices.
 fn decode(
     low: usize,
     high: usize,
@@ -140,8 +140,7 @@ fn decode(
     let roots = roots::roots();
     let y = decoder_pulses::pulses(shape, sign_a, index_a, sign_b, index_b);
     let factors = synthesis::factors(&lfcb, &hfcb, &d, &roots, low, high, shape, gain, &y);
-    io::write_all(STDOUT_FILENO, b"factors");
-    floats(&factors);
+    bands(&factors);
 }
 
 // Each shape, its first and last gain, and both ends of the indices.

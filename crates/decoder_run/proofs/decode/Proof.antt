@@ -31,17 +31,8 @@ factors-requires c κs =
       subst (Accepted (i .low) (i .high) (i .shape) (i .gain)) (sym (y .pulses .ensures)) (accepted _ _ _ _ _ _ _ _ (a .pre)),
     )
 
-slice-aggregate-write-all : tie.Need-slice-aggregate-write-all
-slice-aggregate-write-all c = search needs
-
-write-all-requires : tie.Need-write-all-requires
-write-all-requires c κs = search needs
-
-slice-aggregate-floats : tie.Need-slice-aggregate-floats
-slice-aggregate-floats c = search needs
-
-floats-requires : tie.Need-floats-requires
-floats-requires c κs = search needs
+bands-requires : tie.Need-bands-requires
+bands-requires c κs = search needs
 
 returns : tie.Need-returns
 returns c = search needs
@@ -56,8 +47,5 @@ decode-spec =
     roots-requires
     pulses-requires
     factors-requires
-    slice-aggregate-write-all
-    write-all-requires
-    slice-aggregate-floats
-    floats-requires
+    bands-requires
     returns)
