@@ -1,4 +1,4 @@
--- The 176 offsets obey the recurrence at every entry: one computed test over the whole table, and the lemma that carries it to each entry. Assumes nothing.
+-- The 176 offsets obey the recurrence at every entry: one computed test over the whole table, the lemma that carries it to each entry, and what it says of the entry at a place. Assumes nothing.
 use mathlib.Core.Path.{_≡_, refl, sym, ap₂, _∙_}
 use mathlib.Core.Bool.{Bool}
 use mathlib.Core.List.{List, [], _∷_}

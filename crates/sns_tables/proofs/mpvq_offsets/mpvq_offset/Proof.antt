@@ -1,6 +1,5 @@
 -- The place of A(n,k) is 11 n + k.
 use mathlib.Core.Path.{refl, _∙_}
-use Prim.Native.Nat.{_+_, _*_}
 use borrow.Author.Needs.{needs}
 use native.Mathlib.Omega.{arith}
 use Rattle.sns_tables.proofs.Offsets.{at-place}

@@ -1,13 +1,13 @@
 -- Each arm of the `match` gives the entry at its place, which is the offset there: one law, found for each arm, a row of them a line.
 use mathlib.Core.Path.{_≡_, refl}
-use Prim.Native.Nat.{ℕ, zero, suc, _+_, _*_, _≤_}
+use Prim.Native.Nat.{ℕ, zero, suc, _≤_}
 use borrow.Author.Needs.{needs}
 use native.Mathlib.Omega.{arith}
 use Rattle.sns_tables.proofs.Offsets.{offsetRows, arm}
 use Rattle.sns_tables.proofs.mpvq_offsets.offset_at.Statement.{statement}
 use Rattle.sns_tables.proofs.mpvq_offsets.offset_at.Tie as tie
 
--- the place that is none of those below p
+-- the `_` arm knows that the place is none of those before it, so it is the last
 abbrev Others : ℕ → ℕ → Type 0
 Others zero i = Unit
 Others (suc p) i = Others p i × (i ≡ p → ⊥)
@@ -16,7 +16,6 @@ others : (p i : ℕ) → Others p i → p ≤ i
 others zero i o = omega arith
 others (suc p) i o = let h = others p i (o .0) in let q = o .1 in omega arith
 
--- the last arm
 last : tie.Need-returns-176
 unfolding offsetRows
 last c =
