@@ -17,8 +17,10 @@ help:
 run: kit
 	@mkdir -p target
 	@echo 'proving and building quantize: some minutes the first time, then seconds'
-	@rt check quantize >target/run.log 2>&1 || { tail -n 20 target/run.log; exit 1; }
+	@{ rt check quantize 2>&1; echo $$? >target/run.status; } | tee target/run.log | sed -n '/unchanged since/d; s/^rt: \(.* proved .*\)/  \1/p'
+	@[ "$$(cat target/run.status)" = 0 ] || { tail -n 20 target/run.log; exit 1; }
 	sh tests/run_program.sh quantize <crates/quantize/stdin >target/quantize.txt
+	@echo 'low row, high row, shape, gain, sign A, sign B, joint index, index A, index B | the sixteen factors; the last records:'
 	@tail -n 14 target/quantize.txt
 	@echo 'every line: target/quantize.txt'
 
