@@ -37,7 +37,7 @@ check: kit
 
 compare: kit
 	tests/rust/beside.sh stage1_bench tests/rust/stage1.rs
-	tests/rust/beside.sh sns_c tests/rust/quant.rs tests/rust/numbering.rs tests/rust/decoder.rs tests/rust/refusals.rs
+	tests/rust/beside.sh sns_c tests/rust/quant.rs tests/rust/numbering.rs tests/rust/decoder.rs tests/rust/refusals.rs tests/rust/differences.rs
 
 bench: kit
 	bench/run.sh sns_c bench/quant.rs
