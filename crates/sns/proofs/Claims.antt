@@ -19,7 +19,7 @@ use Rattle.sns.specs.Interpolate.{interpolateAnswer}
 use Rattle.sns.specs.Shape.{shapeAnswer}
 use Rattle.sns.specs.Unpack.{unpackQuestions, unpackAnswer}
 use Rattle.sns.specs.Pack.{packQuestions, packedAs}
-use Rattle.sns.specs.Claims.{CheckPinned, DecodePinned, PulsesPinned, InterpolatePinned, ShapePinned, UnpackPinned, PackPinned, UnpackTaken, UnpackTakes, PackTakes, UnpackThenPack, PackThenUnpack}
+use Rattle.sns.specs.Claims.{CheckPinned, DecodePinned, PulsesPinned, InterpolatePinned, ShapePinned, UnpackPinned, PackPinned, DecodeKeeps, PulsesKeep, InterpolateKeeps, ShapeKeeps, UnpackKeeps, UnpackTaken, UnpackTakes, PackTakes, UnpackThenPack, PackThenUnpack}
 use Rattle.sns.proofs.Answers.{done}
 use Rattle.sns.proofs.Pairs.{small}
 use Rattle.sns.proofs.UnpackAnswers as unpack
@@ -50,6 +50,25 @@ unpack-pinned n k s i old r r′ new new′ = pinned (unpackAnswer n k s i (leng
 
 pub pack-pinned : PackPinned
 pack-pinned n k v r r′ p p′ = p ∙ sym p′
+
+-- ---- a refusal keeps
+keeps : {A : Type 0} (answer : Answer) (filled old : List A) (r : Answer) (new : List A) (number place : ℕ) → (r ≡ answer) × (new ≡ kept r filled old) → r ≡ No number place → new ≡ old
+keeps answer filled old r new number place (p, q) e = q ∙ ap (λ a. kept a filled old) e
+
+pub decode-keeps : DecodeKeeps
+decode-keeps f old = keeps (decodeAnswer f (length old)) (fieldFactors f) old
+
+pub pulses-keep : PulsesKeep
+pulses-keep f old = keeps (decodeAnswer f (length old)) (fieldPulses f) old
+
+pub interpolate-keeps : InterpolateKeeps
+interpolate-keeps factors count old = keeps (interpolateAnswer factors count (length old)) (interpolated factors count) old
+
+pub shape-keeps : ShapeKeeps
+shape-keeps rate ten count gains old = keeps (shapeAnswer rate ten count gains old) (shapedOf rate ten gains old) old
+
+pub unpack-keeps : UnpackKeeps
+unpack-keeps n k s i old = keeps (unpackAnswer n k s i (length old)) (vectorAt n k s i) old
 
 pub unpack-takes : UnpackTakes
 unfolding unpackQuestions

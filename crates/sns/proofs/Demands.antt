@@ -1,7 +1,7 @@
 -- The demands of specs/Demands.antt, each theorem from the file that shows it. Assumes nothing.
 use Rattle.numbering.proofs.Claims.{claim}
 use Rattle.synthesis.proofs.Claims.{within-64}
-use Rattle.sns.specs.Demands.{Answered, Taken, Numbered, Unbeaten}
+use Rattle.sns.specs.Demands.{Answered, Kept, Taken, Numbered, Unbeaten}
 use Rattle.sns.proofs.Answers as answers
 use Rattle.sns.proofs.Claims as claims
 use Rattle.sns.proofs.Taken as taken
@@ -20,6 +20,17 @@ answered =
       shape-pinned = claims.shape-pinned;
       pack-pinned = claims.pack-pinned;
       unpack-pinned = claims.unpack-pinned;
+    }
+
+pub keeps : Kept
+keeps =
+    record {
+      encode-keeps = encode.encode-keeps;
+      decode-keeps = claims.decode-keeps;
+      pulses-keep = claims.pulses-keep;
+      interpolate-keeps = claims.interpolate-keeps;
+      shape-keeps = claims.shape-keeps;
+      unpack-keeps = claims.unpack-keeps;
     }
 
 pub takes : Taken

@@ -26,10 +26,12 @@ use Rattle.stage2.proofs.Winner.{set-a, set-b, unpacks}
 use Rattle.encoder.specs.Quantized.{quantizedOf}
 use Rattle.encoder.proofs.Claims.{all-nearest}
 use Rattle.encoder.proofs.Inside.{inside}
-use Rattle.sns.specs.declared.Answer.the-variants.{Done}
+use Rattle.encoder.specs.declared.Quantized.{Quantized}
+use Rattle.sns.specs.declared.Answer.{Answer}
+use Rattle.sns.specs.declared.Answer.the-variants.{Done, No}
 use Rattle.sns.specs.Answers.{kept}
 use Rattle.sns.specs.Encode.{encodeQuestions, encodeAnswer, encodedAs, fieldsOf}
-use Rattle.sns.specs.EncodeClaims.{EncodePinned, FactorsAlone, EncodeTaken, EncodeTakes, AllAnswered, NoneBeats, DecodesAgain}
+use Rattle.sns.specs.EncodeClaims.{EncodePinned, EncodeKeeps, FactorsAlone, EncodeTaken, EncodeTakes, AllAnswered, NoneBeats, DecodesAgain}
 use Rattle.sns.proofs.Taken.{decode-takes}
 use Rattle.sns.proofs.Answers.{done}
 use Rattle.sns.proofs.Elements.{factors-done, done-factors, done-taken}
@@ -37,6 +39,15 @@ use Rattle.sns.proofs.EncodeAnswers.{by-factors}
 
 pub encode-pinned : EncodePinned
 encode-pinned factors old r r′ new new′ (p, q) (p′, q′) = (p ∙ sym p′, q ∙ sym q′)
+
+answered-by : (a : Answer) (q : Quantized) → encodedAs a q .answer ≡ a
+answered-by Done q = refl
+answered-by (No number place) q = refl
+
+pub encode-keeps : EncodeKeeps
+encode-keeps factors old r new number place (p, q) e =
+    let refused = sym (answered-by (encodeAnswer factors (length old)) (quantizedOf factors)) ∙ sym (ap (λ x. x .answer) p) ∙ e in
+    (q ∙ ap (λ a. kept a (quantizedOf factors .stage2 .scfq) old) refused, p ∙ ap (λ a. encodedAs a (quantizedOf factors)) refused)
 
 pub factors-alone : FactorsAlone
 factors-alone factors old old′ r r′ new new′ l (p, q) (p′, q′) = (p ∙ same ∙ sym p′, λ d. filled old new q d ∙ sym (filled old′ new′ q′ (sym (ap (encodeAnswer factors) l) ∙ d)))

@@ -75,6 +75,26 @@ UnpackPinned = (n k sign index : ℕ) (old : List ℤ) (r r′ : Answer) (new ne
 abbrev pub PackPinned : Type 0
 PackPinned = (n k : ℕ) (v : List ℤ) (r r′ : Packed) → r ≡ packAnswer n k v → r′ ≡ packAnswer n k v → r ≡ r′
 
+-- ---- kept: after a refusal a lent buffer holds what it held
+
+abbrev pub Keeps : {A : Type 0} → (List A → Answer → List A → Type 0) → Type 0
+Keeps {A} says = (old : List A) (r : Answer) (new : List A) (number place : ℕ) → says old r new → r ≡ No number place → new ≡ old
+
+abbrev pub DecodeKeeps : Type 0
+DecodeKeeps = (f : Fields) → Keeps (DecodeSays f)
+
+abbrev pub PulsesKeep : Type 0
+PulsesKeep = (f : Fields) → Keeps (PulsesSays f)
+
+abbrev pub InterpolateKeeps : Type 0
+InterpolateKeeps = (factors : List Float) (count : ℕ) → Keeps (InterpolateSays factors count)
+
+abbrev pub ShapeKeeps : Type 0
+ShapeKeeps = (rate : ℕ) (ten : Bool) (count : ℕ) (gains : List Float) → Keeps (ShapeSays rate ten count gains)
+
+abbrev pub UnpackKeeps : Type 0
+UnpackKeeps = (n k sign index : ℕ) → Keeps (UnpackSays n k sign index)
+
 -- ---- taken: what a call takes, all of that and nothing else
 
 -- what decode takes: rows below 32, a shape below 4, a gain of the shape, signs and indices in use below their ends, sixteen factors

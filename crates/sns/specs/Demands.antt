@@ -19,6 +19,15 @@ pub record Answered : Type 0 where
   pub pack-pinned : claims.PackPinned
   pub unpack-pinned : claims.UnpackPinned
 
+-- after a refusal each lent buffer holds what it held
+pub record Kept : Type 0 where
+  pub encode-keeps : encode.EncodeKeeps
+  pub decode-keeps : claims.DecodeKeeps
+  pub pulses-keep : claims.PulsesKeep
+  pub interpolate-keeps : claims.InterpolateKeeps
+  pub shape-keeps : claims.ShapeKeeps
+  pub unpack-keeps : claims.UnpackKeeps
+
 -- and what each call takes, both ways
 pub record Taken : Type 0 where
   pub encode-takes : encode.EncodeTakes

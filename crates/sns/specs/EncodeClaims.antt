@@ -15,16 +15,22 @@ use Rattle.stage2_target.specs.Target.{targetOf}
 use Rattle.stage2.specs.Stage2.{choiceOf, signedFor}
 use Rattle.encoder.specs.Quantized.{quantizedOf}
 use Rattle.encoder.specs.Claims.{Nearest}
-use Rattle.sns.specs.declared.Answer.the-variants.{Done}
+use Rattle.sns.specs.declared.Answer.the-variants.{Done, No}
 use Rattle.sns.specs.declared.encode.Encoded.{Encoded}
 use Rattle.sns.specs.Decode.{decodeAnswer, fieldPulses}
-use Rattle.sns.specs.Encode.{encodeAnswer, fieldsOf, EncodeSays}
+use Rattle.sns.specs.Encode.{encodeAnswer, fieldsOf, refusedAs, EncodeSays}
 
 -- two results of encode that its statement allows are equal, and so are the buffers
 abbrev pub EncodePinned : Type 0
 EncodePinned =
     (factors old : List Float) (r r′ : Encoded) (new new′ : List Float)
     → EncodeSays factors old r new → EncodeSays factors old r′ new′ → (r ≡ r′) × (new ≡ new′)
+
+-- after a refusal the lent buffer holds what it held, and every field is 0
+abbrev pub EncodeKeeps : Type 0
+EncodeKeeps =
+    (factors old : List Float) (r : Encoded) (new : List Float) (number place : ℕ)
+    → EncodeSays factors old r new → r .answer ≡ No number place → (new ≡ old) × (r ≡ refusedAs number place)
 
 -- what encode takes: sixteen factors that are finite and not beyond the limit, and sixteen places to fill
 pub record EncodeTaken (factors : List Float) (len : ℕ) : Type 0 where
