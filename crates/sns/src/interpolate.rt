@@ -31,7 +31,7 @@ pub fn interpolate(factors: &[f32], band_count: u32, bands: &mut [f32]) -> Answe
     match factor::first_refused(factors, interpolation::band_limit()) {
         Scanned::Refused(number, place) => Answer::No(number, place),
         Scanned::Taken => {
-            interpolation::interpolate(&crate::sixteen(factors), bands);
+            interpolation::interpolate(&rows::sixteen(factors), bands);
             Answer::Done
         }
     }
