@@ -1,40 +1,11 @@
 // Shaping: each spectrum line times the linear gain of its band.
 use crate::Answer;
+use factor::Scanned;
 use sns_tables::band_index_tables::band_limits;
 ghost use mathlib.Core.Path.{_≡_};
 ghost use Prim.Native.Nat.{_<_};
-ghost use Rattle.float_laws.specs.Kind.{finite};
 ghost use Rattle.sns_tables.specs.Bands.{bandsOf, lastLimit};
-ghost use Rattle.sns.specs.Answers.{answerOf};
-ghost use Rattle.sns.specs.Elements.{valueQuestions};
 ghost use Rattle.sns.specs.Shape.{ShapeSays};
-
-fn is_finite(x: f32) -> bool
-    ensures { λ r. ⌜ r ≡ finite x ⌝ }
-{
-    if x != x {
-        return false;
-    }
-    let infinity = f32::from_bits(0x7f80_0000);
-    if x == infinity {
-        return false;
-    }
-    x != -infinity
-}
-
-// The first value that is NaN or infinite, by place, or Done.
-fn value_refusal(values: &[f32]) -> Answer
-    ensures { λ r. ⌜ r ≡ answerOf (valueQuestions 0 (now (values .entry))) ⌝ }
-{
-    let mut i = 0usize;
-    while i < values.len() {
-        if !is_finite(values[i]) {
-            return Answer::No(12, i);
-        }
-        i += 1;
-    }
-    Answer::Done
-}
 
 // How many bands a rate and a frame length have.
 fn bands_of(rate: u32, ten_ms: bool) -> u32
@@ -78,12 +49,12 @@ pub fn shape(rate: u32, ten_ms: bool, band_count: u32, gains: &[f32], lines: &mu
     if count < end {
         return Answer::No(9, 0);
     }
-    if let Answer::No(number, place) = value_refusal(gains) {
+    if let Scanned::Refused(number, place) = factor::first_not_finite(gains) {
         return Answer::No(number, place);
     }
-    match value_refusal(&lines[0..end]) {
-        Answer::No(number, place) => Answer::No(number, place),
-        Answer::Done => {
+    match factor::first_not_finite(&lines[0..end]) {
+        Scanned::Refused(number, place) => Answer::No(number, place),
+        Scanned::Taken => {
             shaping::shape(rate as usize, ten_ms, gains, lines);
             Answer::Done
         }
