@@ -1,33 +1,7 @@
 // Shaping: each spectrum line times the linear gain of its band.
 use crate::Answer;
 use factor::Scanned;
-use sns_tables::band_index_tables::band_limits;
-ghost use mathlib.Core.Path.{_≡_};
-ghost use Prim.Native.Nat.{_<_};
-ghost use Rattle.sns_tables.specs.Bands.{bandsOf, lastLimit};
 ghost use Rattle.sns.specs.Shape.{ShapeSays};
-
-// How many bands a rate and a frame length have.
-fn bands_of(rate: u32, ten_ms: bool) -> u32
-    ensures { λ r. ⌜ r ≡ bandsOf rate «ten_ms» ⌝ }
-{
-    if rate != 0 {
-        return 64;
-    }
-    if ten_ms {
-        return 64;
-    }
-    60
-}
-
-// Where their last band ends.
-fn last_limit(rate: u32, ten_ms: bool) -> usize
-    requires { ⌜ rate < 5 ⌝ }
-    ensures { λ r. ⌜ r ≡ lastLimit rate «ten_ms» ⌝ }
-{
-    let limits = band_limits(rate as usize, ten_ms);
-    limits[bands_of(rate, ten_ms) as usize]
-}
 
 // Multiplies each line of band b once by gain b; the lines past the last band limit stay. Refused with 10 (the rate, 0 to
 // 4), 11 (the band count), 9 (the gains' or the lines' length), 12 (a gain, then a line below the last limit, by place),
@@ -38,13 +12,13 @@ pub fn shape(rate: u32, ten_ms: bool, band_count: u32, gains: &[f32], lines: &mu
     if 4 < rate {
         return Answer::No(10, 0);
     }
-    if band_count != bands_of(rate, ten_ms) {
+    if band_count != shaping::bands_of(rate, ten_ms) {
         return Answer::No(11, 0);
     }
     if gains.len() != band_count as usize {
         return Answer::No(9, 0);
     }
-    let end = last_limit(rate, ten_ms);
+    let end = shaping::last_limit(rate, ten_ms);
     let count = lines.len();
     if count < end {
         return Answer::No(9, 0);
