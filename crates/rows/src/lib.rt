@@ -22,10 +22,10 @@ pub fn fill(from: [f32; 16], to: &mut [f32])
     requires { ⌜ length (now to) ≡ 16 ⌝ }
     ensures { λ _. ⌜ now (to .exit) ≡ from ⌝ }
 {
-    let mut n = 0usize;
-    while n < 16 {
-        to[n] = from[n];
-        n += 1;
+    let mut i = 0usize;
+    while i < 16 {
+        to[i] = from[i];
+        i += 1;
     }
 }
 
