@@ -1,5 +1,5 @@
--- The answers in the words of the refusals, a row of factors one after another, and what a row that is taken says of each factor. Assumes nothing.
-use mathlib.Core.Path.{_≡_, refl, sym, subst}
+-- What the tests for NaN and infinities say, the answers in the words of the refusals, a row one after another, and what a row that is taken says of each factor. Assumes nothing.
+use mathlib.Core.Path.{_≡_, refl, sym, ap, subst}
 use mathlib.Core.Bool.{Bool, true, false, _||_, cond, false≢true}
 use mathlib.Core.List.{List, [], _∷_}
 use Prim.Native.Nat.{ℕ, zero, suc, _+_, _*_, _<_}
@@ -9,7 +9,8 @@ use lib.Dec.{T, ltb, nltb→le}
 use lib.IntN.{ℤ, pos}
 use lib.ListN.{length, getD, drop}
 use lib.Seq.{drop-cons}
-use lib.Ieee.{Float, nan, inf, fin, up, down, lt, neg}
+use lib.Ieee.{Float, nan, inf, fin, up, down, lt, eq, ne, neg}
+use lib.Ieee.Compare.{differs-from-itself}
 use Rattle.float_laws.specs.Kind.{finite}
 use Rattle.float_laws.specs.Decimal.{plus}
 use Rattle.float_laws.specs.Size.{Within}
@@ -18,7 +19,17 @@ use Rattle.factor.specs.declared.Checked.{Checked}
 use Rattle.factor.specs.declared.Checked.the-variants as answer
 use Rattle.factor.specs.declared.Scanned.{Scanned}
 use Rattle.factor.specs.declared.Scanned.the-variants.{Taken, Refused}
-use Rattle.factor.specs.Check.{factorLimit, beyond, refusalOf, checkedOf, numberOf, valueOf, carriedBy, unlessTaken, firstFrom, firstRefused}
+use Rattle.factor.specs.Check.{factorLimit, beyond, refusalOf, checkedOf, numberOf, valueOf, carriedBy, unlessTaken, firstFrom, firstRefused, notFiniteFrom}
+
+-- ---- a value that differs from itself, or equals an infinity, isn't finite
+pub nan-not : (x : Float) → ne x x ≡ true → finite x ≡ false
+nan-not x h = ap finite (differs-from-itself x (subst T (sym h) tt))
+
+pub infinity-not : (x : Float) (s : Bool) → eq x (inf s) ≡ true → finite x ≡ false
+unfolding eq
+infinity-not nan s h = refl
+infinity-not (inf t) s h = refl
+infinity-not (fin t m e) s h = absurd (false≢true h)
 
 -- ---- one factor
 pub number-is : (limit x : Float) → numberOf (checkedOf limit x) ≡ refusalOf limit x
@@ -41,11 +52,16 @@ pub limit-finite : T (finite factorLimit)
 unfolding factorLimit plus
 limit-finite = tt
 
--- ---- a row: what is left from i on starts with the factor at i
+-- ---- a row: what is left from i on starts with the factor, or the value, at i
 pub first-at : (limit : Float) (xs : List Float) (i : ℕ) (k : Checked) → i < length xs → k ≡ checkedOf limit (getD xs i nan)
     → firstFrom limit i (drop i xs) ≡ unlessTaken (numberOf k) i (firstFrom limit (i + 1) (drop (i + 1) xs))
 unfolding firstFrom
 first-at limit xs i k h e = rw (drop-cons xs i nan h, add-one, e)
+
+pub value-at : (xs : List Float) (i : ℕ) (f : Bool) → i < length xs → f ≡ finite (getD xs i nan)
+    → notFiniteFrom i (drop i xs) ≡ cond f (notFiniteFrom (i + 1) (drop (i + 1) xs)) (Refused 12 i)
+unfolding notFiniteFrom
+value-at xs i f h e = rw (drop-cons xs i nan h, add-one, e)
 
 -- ---- a factor that is finite and not beyond the limit is within it
 near : (m : ℕ) (e : ℤ) (x : Float) → T (finite x) → beyond (fin false m e) x ≡ false → Within x (m * up e) (down e)

@@ -1,4 +1,5 @@
--- What checking a factor answers, document 01's number and value of each answer, and the first refused of a row. Definitions only.
+-- What checking a factor answers, document 01's number and value of each answer, the first refused of a row, and the first value of a row
+-- that isn't finite. Definitions only.
 use mathlib.Core.Bool.{Bool, _||_, cond}
 use mathlib.Core.List.{List, [], _∷_}
 use Prim.Native.Nat.{ℕ, zero, suc}
@@ -54,3 +55,11 @@ firstFrom limit place (x ∷ xs) = unlessTaken (numberOf (checkedOf limit x)) pl
 
 abbrev pub firstRefused : Float → List Float → Scanned
 firstRefused limit factors = firstFrom limit 0 factors
+
+-- no. 12: a value is NaN or infinite. Of the values from a place on, the first such one's number and place
+unfoldable pub notFiniteFrom : ℕ → List Float → Scanned
+notFiniteFrom place [] = Taken
+notFiniteFrom place (x ∷ xs) = cond (finite x) (notFiniteFrom (suc place) xs) (Refused 12 place)
+
+abbrev pub firstNotFinite : List Float → Scanned
+firstNotFinite values = notFiniteFrom 0 values

@@ -1,8 +1,9 @@
-// The check of one factor, and of a row of factors. Public for the crates above only; every result is pinned.
+// The check of one factor, of a row of factors, and of a row of values that need only be finite. Public for the crates
+// above only; every result is pinned.
 ghost use mathlib.Core.Path.{_≡_};
 ghost use lib.Dec.{T};
 ghost use Rattle.float_laws.specs.Kind.{finite};
-ghost use Rattle.factor.specs.Check.{factorLimit, checkedOf, numberOf, valueOf, refusalOf, carriedBy, firstRefused};
+ghost use Rattle.factor.specs.Check.{factorLimit, checkedOf, numberOf, valueOf, refusalOf, carriedBy, firstRefused, firstNotFinite};
 
 // The answer for one factor: the factor itself, the offending value, or nothing.
 pub enum Checked {
@@ -52,7 +53,7 @@ pub fn check_factor(x: f32) -> Checked
     check_against(x, factor_limit())
 }
 
-// What a row of factors is answered: all are taken, or the number and place of the first that is not.
+// What a row is answered: all are taken, or the number and place of the first that is not.
 pub enum Scanned {
     Taken,
     Refused(u32, usize),
@@ -69,6 +70,33 @@ pub fn first_refused(factors: &[f32], limit: f32) -> Scanned
             Checked::Within(_) => {}
             Checked::TooFar(_) => return Scanned::Refused(8, i),
             Checked::NotFinite => return Scanned::Refused(7, i),
+        }
+        i += 1;
+    }
+    Scanned::Taken
+}
+
+fn is_finite(x: f32) -> bool
+    ensures { λ r. ⌜ r ≡ finite x ⌝ }
+{
+    if x != x {
+        return false;
+    }
+    let infinity = f32::from_bits(0x7f80_0000);
+    if x == infinity {
+        return false;
+    }
+    x != -infinity
+}
+
+// The first value that is NaN or infinite, by place.
+pub fn first_not_finite(values: &[f32]) -> Scanned
+    ensures { λ r. ⌜ r ≡ firstNotFinite (now (values .entry)) ⌝ }
+{
+    let mut i = 0usize;
+    while i < values.len() {
+        if !is_finite(values[i]) {
+            return Scanned::Refused(12, i);
         }
         i += 1;
     }

@@ -15,6 +15,16 @@ pub fn band_limit() -> f32
     64.0
 }
 
+// There are 60 bands or 64.
+pub fn count_ok(band_count: u32) -> bool
+    ensures { λ r. ⌜ r ≡ countOk «band_count» ⌝ }
+{
+    if band_count == 60 {
+        return true;
+    }
+    band_count == 64
+}
+
 // All 64 bands.
 fn spread(factors: &[f32; 16]) -> [f32; 64]
     requires { ⌜ length (now factors) ≡ 16 ⌝ }

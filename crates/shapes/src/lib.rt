@@ -1,7 +1,9 @@
 // The shapes: each set of pulse vectors states its dimension, pulse count and size as constants of a type of its own,
-// and PulseSet's constructors read them from there. Public for the crates above only; every result is pinned.
+// and PulseSet's constructors read them from there; and how many gains a shape has. Public for the crates above only;
+// every result is pinned.
 ghost use mathlib.Core.Path.{_≡_};
 ghost use Prim.Native.Nat.{_<_};
+ghost use Rattle.sns_tables.specs.Gains.{gainsOf};
 ghost use Rattle.shapes.specs.Sets.{setA, setB, foundOf};
 
 // Shape 0, set A: ten pulses on places 0 to 9.
@@ -139,5 +141,18 @@ impl PulseSet {
             return Found::Nothing;
         }
         Found::Nothing
+    }
+}
+
+// How many gains a shape has.
+pub fn gain_count(shape: u32) -> u32
+    requires { ⌜ shape < 4 ⌝ }
+    ensures { λ r. ⌜ r ≡ gainsOf shape ⌝ }
+{
+    match shape {
+        0 => 2,
+        1 => 4,
+        2 => 4,
+        _ => 8,
     }
 }

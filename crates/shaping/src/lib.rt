@@ -1,12 +1,35 @@
-// Shaping of a spectrum in place, band by band. Public for the crates above only: a caller shows the `requires`. Every
-// line at return is pinned.
+// Shaping of a spectrum in place, band by band, and how many bands there are. Public for the crates above only: a caller
+// shows the `requires`. Every line at return and every other result is pinned.
 ghost use mathlib.Core.Path.{_≡_};
 ghost use mathlib.Core.List.{map};
-ghost use Prim.Native.Nat.{_≤_};
+ghost use Prim.Native.Nat.{_≤_, _<_};
 ghost use lib.ListN.{length};
 ghost use lib.Ieee.{binary32, mul};
+ghost use Rattle.sns_tables.specs.Bands.{bandsOf, lastLimit};
 ghost use Rattle.shaping.specs.Shaping.{Shapeable, scaledPart, shapedOf};
 use sns_tables::band_index_tables::band_limits;
+
+// How many bands a rate and a frame length have.
+pub fn bands_of(rate: u32, ten_ms: bool) -> u32
+    ensures { λ r. ⌜ r ≡ bandsOf rate «ten_ms» ⌝ }
+{
+    if rate != 0 {
+        return 64;
+    }
+    if ten_ms {
+        return 64;
+    }
+    60
+}
+
+// Where their last band ends.
+pub fn last_limit(rate: u32, ten_ms: bool) -> usize
+    requires { ⌜ rate < 5 ⌝ }
+    ensures { λ r. ⌜ r ≡ lastLimit rate «ten_ms» ⌝ }
+{
+    let limits = band_limits(rate as usize, ten_ms);
+    limits[bands_of(rate, ten_ms) as usize]
+}
 
 // Multiplies each line once by the gain.
 fn scale(lines: &mut [f32], gain: f32)

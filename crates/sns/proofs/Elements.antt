@@ -2,11 +2,8 @@
 use mathlib.Core.Path.{_≡_, refl, sym, ap, _∙_}
 use mathlib.Core.Bool.{Bool, true, false, not, cond}
 use mathlib.Core.List.{List, [], _∷_}
-use Prim.Native.Nat.{ℕ, suc, _+_, _<_}
-use native.Mathlib.Numerals.{add-one}
-use lib.ListN.{length, getD, drop}
-use lib.Seq.{drop-cons}
-use lib.Ieee.{Float, nan}
+use Prim.Native.Nat.{ℕ, suc}
+use lib.Ieee.{Float}
 use lib.Dec.{T}
 use borrow.Author.Tests.{not-true, not-false}
 use Rattle.float_laws.specs.Kind.{finite}
@@ -16,7 +13,7 @@ use Rattle.list_laws.proofs.Every.{both-left, both-right}
 use Rattle.factor.specs.declared.Checked.the-variants as checked
 use Rattle.factor.specs.declared.Scanned.{Scanned}
 use Rattle.factor.specs.declared.Scanned.the-variants.{Taken, Refused}
-use Rattle.factor.specs.Check.{beyond, numberOf, unlessTaken, firstFrom, firstRefused}
+use Rattle.factor.specs.Check.{beyond, numberOf, unlessTaken, firstFrom, firstRefused, notFiniteFrom, firstNotFinite}
 use Rattle.sns.specs.declared.Answer.{Answer}
 use Rattle.sns.specs.declared.Answer.the-variants.{Done, No}
 use Rattle.sns.specs.Answers.{answerOf}
@@ -57,11 +54,23 @@ done-taken limit xs e = go (firstRefused limit xs) (sym (factors-from limit 0 xs
     go Taken h = refl
     go (Refused number place) h = absurd (no-not-done number place h)
 
--- the values from i on start with the value at i
-pub value-at : (xs : List Float) (i : ℕ) (f : Bool) → i < length xs → f ≡ finite (getD xs i nan)
-    → answerOf (valueQuestions i (drop i xs)) ≡ cond (not f) (No 12 i) (answerOf (valueQuestions (i + 1) (drop (i + 1) xs)))
-unfolding valueQuestions answerOf
-value-at xs i f h e = rw (drop-cons xs i nan h, add-one, e)
+-- the values, in the same way
+values-from : (place : ℕ) (xs : List Float) → answerOf (valueQuestions place xs) ≡ scanned (notFiniteFrom place xs)
+unfolding valueQuestions answerOf notFiniteFrom scanned
+values-from place [] = refl
+values-from place (x ∷ xs) = by (finite x) _ _ (values-from (suc place) xs)
+  where
+    by : (f : Bool) (rest : Answer) (more : Scanned) → rest ≡ scanned more → cond (not f) (No 12 place) rest ≡ scanned (cond f more (Refused 12 place))
+    by true r m e = e
+    by false r m e = refl
+
+pub refused-value : (xs : List Float) (number place : ℕ) → Refused number place ≡ firstNotFinite xs → No number place ≡ answerOf (valueQuestions 0 xs)
+unfolding scanned
+refused-value xs number place e = ap scanned e ∙ sym (values-from 0 xs)
+
+pub values-taken : (xs : List Float) → Taken ≡ firstNotFinite xs → Done ≡ answerOf (valueQuestions 0 xs)
+unfolding scanned
+values-taken xs e = ap scanned e ∙ sym (values-from 0 xs)
 
 -- ---- done exactly when every element is as it should be
 pair : (a b : Bool) → T a → T b → T (both a b)

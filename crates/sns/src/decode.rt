@@ -4,7 +4,6 @@ use crate::fields::Fields;
 use crate::fields::field_refusal;
 use sns_tables::spec_noise_shape_quant_tables as tables;
 ghost use mathlib.Core.Path.{_≡_};
-ghost use lib.ListN.{length};
 ghost use Rattle.sns.specs.declared.Answer.the-variants.{Done};
 ghost use Rattle.sns.specs.Answers.{answerOf};
 ghost use Rattle.sns.specs.Fields.{fieldQuestions};
@@ -52,21 +51,9 @@ pub fn decode(fields: Fields, factors: &mut [f32]) -> Answer
     match field_refusal(fields) {
         Answer::No(number, place) => Answer::No(number, place),
         Answer::Done => {
-            crate::fill(factors_of(fields), factors);
+            rows::fill(factors_of(fields), factors);
             Answer::Done
         }
-    }
-}
-
-// Sixteen pulses into a lent row of sixteen.
-fn fill_pulses(from: [i32; 16], to: &mut [i32])
-    requires { ⌜ length (now to) ≡ 16 ⌝ }
-    ensures { λ _. ⌜ now (to .exit) ≡ from ⌝ }
-{
-    let mut n = 0usize;
-    while n < 16 {
-        to[n] = from[n];
-        n += 1;
     }
 }
 
@@ -80,7 +67,7 @@ pub fn decode_pulses(fields: Fields, pulses: &mut [i32]) -> Answer
     match field_refusal(fields) {
         Answer::No(number, place) => Answer::No(number, place),
         Answer::Done => {
-            fill_pulses(pulses_of(fields), pulses);
+            rows::fill_pulses(pulses_of(fields), pulses);
             Answer::Done
         }
     }

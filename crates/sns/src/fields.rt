@@ -4,9 +4,7 @@ use shapes::PulseSet;
 use shapes::RegularB;
 ghost use mathlib.Core.Path.{_≡_};
 ghost use mathlib.Core.Bool.{_&&_};
-ghost use Prim.Native.Nat.{_<_};
 ghost use lib.Dec.{leb};
-ghost use Rattle.sns_tables.specs.Gains.{gainsOf};
 ghost use Rattle.sns.specs.Answers.{answerOf};
 ghost use Rattle.sns.specs.Fields.{usesB, fieldQuestions};
 
@@ -20,19 +18,6 @@ pub struct Fields {
     pub sign_b: u32,
     pub index_a: u32,
     pub index_b: u32,
-}
-
-// How many gains a shape has.
-fn gain_count(shape: u32) -> u32
-    requires { ⌜ shape < 4 ⌝ }
-    ensures { λ r. ⌜ r ≡ gainsOf shape ⌝ }
-{
-    match shape {
-        0 => 2,
-        1 => 4,
-        2 => 4,
-        _ => 8,
-    }
 }
 
 // Set B is in use, and the value is at or above the end.
@@ -58,7 +43,7 @@ pub fn field_refusal(f: Fields) -> Answer
     if 3 < f.shape {
         return Answer::No(2, 0);
     }
-    if gain_count(f.shape) <= f.gain {
+    if shapes::gain_count(f.shape) <= f.gain {
         return Answer::No(3, 0);
     }
     if 2 <= f.sign_a {

@@ -1,25 +1,14 @@
 // Interpolation: sixteen factors into bands.
 use crate::Answer;
 use factor::Scanned;
-ghost use mathlib.Core.Path.{_≡_};
-ghost use Rattle.interpolation.specs.Bands.{countOk};
 ghost use Rattle.sns.specs.Interpolate.{InterpolateSays};
-
-fn count_ok(band_count: u32) -> bool
-    ensures { λ r. ⌜ r ≡ countOk «band_count» ⌝ }
-{
-    if band_count == 60 {
-        return true;
-    }
-    band_count == 64
-}
 
 // Fills `bands`, `band_count` of them, 60 or 64, from sixteen factors. Refused with 11 (the band count), 9 (the factors'
 // or the bands' length), 7 and 8 (a factor, by place), asked in this order.
 pub fn interpolate(factors: &[f32], band_count: u32, bands: &mut [f32]) -> Answer
     ensures { λ r. ⌜ InterpolateSays (now (factors .entry)) «band_count» (now (bands .entry)) r (now (bands .exit)) ⌝ }
 {
-    if !count_ok(band_count) {
+    if !interpolation::count_ok(band_count) {
         return Answer::No(11, 0);
     }
     if factors.len() != 16 {
@@ -31,7 +20,7 @@ pub fn interpolate(factors: &[f32], band_count: u32, bands: &mut [f32]) -> Answe
     match factor::first_refused(factors, interpolation::band_limit()) {
         Scanned::Refused(number, place) => Answer::No(number, place),
         Scanned::Taken => {
-            interpolation::interpolate(&crate::sixteen(factors), bands);
+            interpolation::interpolate(&rows::sixteen(factors), bands);
             Answer::Done
         }
     }

@@ -16,37 +16,8 @@ pub mod pack;
 pub mod shape;
 pub mod unpack;
 
-ghost use mathlib.Core.Path.{_≡_};
-ghost use lib.ListN.{length};
-
 // Done, or no, with the number of the refusal and a place.
 pub enum Answer {
     Done,
     No(u32, usize),
-}
-
-// The elements of a lent row of sixteen.
-fn sixteen(row: &[f32]) -> [f32; 16]
-    requires { ⌜ length (now row) ≡ 16 ⌝ }
-    ensures { λ r. ⌜ r ≡ now (row .entry) ⌝ }
-{
-    let mut copy = [0.0f32; 16];
-    let mut n = 0usize;
-    while n < 16 {
-        copy[n] = row[n];
-        n += 1;
-    }
-    copy
-}
-
-// Sixteen values into a lent row of sixteen.
-fn fill(from: [f32; 16], to: &mut [f32])
-    requires { ⌜ length (now to) ≡ 16 ⌝ }
-    ensures { λ _. ⌜ now (to .exit) ≡ from ⌝ }
-{
-    let mut n = 0usize;
-    while n < 16 {
-        to[n] = from[n];
-        n += 1;
-    }
 }

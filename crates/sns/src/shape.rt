@@ -1,62 +1,7 @@
 // Shaping: each spectrum line times the linear gain of its band.
 use crate::Answer;
-use sns_tables::band_index_tables::band_limits;
-ghost use mathlib.Core.Path.{_≡_};
-ghost use Prim.Native.Nat.{_<_};
-ghost use Rattle.float_laws.specs.Kind.{finite};
-ghost use Rattle.sns_tables.specs.Bands.{bandsOf, lastLimit};
-ghost use Rattle.sns.specs.Answers.{answerOf};
-ghost use Rattle.sns.specs.Elements.{valueQuestions};
+use factor::Scanned;
 ghost use Rattle.sns.specs.Shape.{ShapeSays};
-
-fn is_finite(x: f32) -> bool
-    ensures { λ r. ⌜ r ≡ finite x ⌝ }
-{
-    if x != x {
-        return false;
-    }
-    let infinity = f32::from_bits(0x7f80_0000);
-    if x == infinity {
-        return false;
-    }
-    x != -infinity
-}
-
-// The first value that is NaN or infinite, by place, or Done.
-fn value_refusal(values: &[f32]) -> Answer
-    ensures { λ r. ⌜ r ≡ answerOf (valueQuestions 0 (now (values .entry))) ⌝ }
-{
-    let mut i = 0usize;
-    while i < values.len() {
-        if !is_finite(values[i]) {
-            return Answer::No(12, i);
-        }
-        i += 1;
-    }
-    Answer::Done
-}
-
-// How many bands a rate and a frame length have.
-fn bands_of(rate: u32, ten_ms: bool) -> u32
-    ensures { λ r. ⌜ r ≡ bandsOf rate «ten_ms» ⌝ }
-{
-    if rate != 0 {
-        return 64;
-    }
-    if ten_ms {
-        return 64;
-    }
-    60
-}
-
-// Where their last band ends.
-fn last_limit(rate: u32, ten_ms: bool) -> usize
-    requires { ⌜ rate < 5 ⌝ }
-    ensures { λ r. ⌜ r ≡ lastLimit rate «ten_ms» ⌝ }
-{
-    let limits = band_limits(rate as usize, ten_ms);
-    limits[bands_of(rate, ten_ms) as usize]
-}
 
 // Multiplies each line of band b once by gain b; the lines past the last band limit stay. Refused with 10 (the rate, 0 to
 // 4), 11 (the band count), 9 (the gains' or the lines' length), 12 (a gain, then a line below the last limit, by place),
@@ -67,23 +12,23 @@ pub fn shape(rate: u32, ten_ms: bool, band_count: u32, gains: &[f32], lines: &mu
     if 4 < rate {
         return Answer::No(10, 0);
     }
-    if band_count != bands_of(rate, ten_ms) {
+    if band_count != shaping::bands_of(rate, ten_ms) {
         return Answer::No(11, 0);
     }
     if gains.len() != band_count as usize {
         return Answer::No(9, 0);
     }
-    let end = last_limit(rate, ten_ms);
+    let end = shaping::last_limit(rate, ten_ms);
     let count = lines.len();
     if count < end {
         return Answer::No(9, 0);
     }
-    if let Answer::No(number, place) = value_refusal(gains) {
+    if let Scanned::Refused(number, place) = factor::first_not_finite(gains) {
         return Answer::No(number, place);
     }
-    match value_refusal(&lines[0..end]) {
-        Answer::No(number, place) => Answer::No(number, place),
-        Answer::Done => {
+    match factor::first_not_finite(&lines[0..end]) {
+        Scanned::Refused(number, place) => Answer::No(number, place),
+        Scanned::Taken => {
             shaping::shape(rate as usize, ten_ms, gains, lines);
             Answer::Done
         }

@@ -1,12 +1,12 @@
 -- By cases on the float, each answer is what the tests that led there leave: an infinity is beyond every finite limit.
-use mathlib.Core.Path.{_≡_, refl, sym, _∙_, ap, subst}
+use mathlib.Core.Path.{_≡_, refl, sym, _∙_}
 use mathlib.Core.Bool.{Bool, true, false, false≢true, _||_, _&&_, cond}
 use lib.Dec.{T}
 use lib.Ieee.{Float, nan, inf, fin, lt, eq, ne, ofBits, neg, nanBits}
-use lib.Ieee.Compare.{differs-from-itself}
 use Rattle.float_laws.specs.Kind.{finite}
 use Rattle.factor.specs.Check.{checkedOf}
 use Rattle.factor.specs.declared.Checked.the-variants.{Within, NotFinite, TooFar}
+use Rattle.factor.proofs.Laws.{nan-not, infinity-not}
 use Rattle.factor.proofs.check_against.Statement.{statement}
 use Rattle.factor.proofs.check_against.Tie as tie
 
@@ -14,13 +14,10 @@ clash : {A : Type 0} → false ≡ true → A
 clash h = absurd (false≢true h)
 
 is-nan : (limit x : Float) → ne x x ≡ true → NotFinite ≡ checkedOf limit x
-is-nan limit x h = ap (checkedOf limit) (sym (differs-from-itself x (subst T (sym h) tt)))
+is-nan limit x h = rw (nan-not x h)
 
 is-infinite : (limit x : Float) (s : Bool) → eq x (inf s) ≡ true → NotFinite ≡ checkedOf limit x
-unfolding eq
-is-infinite limit nan s h = refl
-is-infinite limit (inf t) s h = refl
-is-infinite limit (fin t m e) s h = clash h
+is-infinite limit x s h = rw (infinity-not x s h)
 
 -- ---- where x is no NaN and no infinity the tests against the limit are the answer
 is-finite : (x : Float) → ne x x ≡ false → eq x (inf false) ≡ false → eq x (inf true) ≡ false → finite x ≡ true

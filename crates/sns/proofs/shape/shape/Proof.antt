@@ -8,8 +8,8 @@ use Prim.Native.Nat.{ℕ, _-_, _≤_, _<_}
 use lib.ListN.{take, drop}
 use lib.Ieee.{Float}
 use Rattle.sns_tables.specs.Bands.{lastLimit}
-use Rattle.sns.specs.Answers.{answerOf}
-use Rattle.sns.specs.Elements.{valueQuestions}
+use Rattle.factor.specs.Check.{firstNotFinite}
+use Rattle.sns.proofs.Elements.{refused-value, values-taken}
 use Rattle.sns.proofs.ShapeAnswers.{Fitting, no-10, no-11, no-9-gains, no-9-lines, by-gains, by-lines}
 use Rattle.sns.proofs.shape.shape.Statement.{statement}
 use Rattle.sns.proofs.shape.shape.Tie as tie
@@ -30,12 +30,12 @@ below : (rate : ℕ) → rate ≤ 4 → rate < 5
 below rate h = omega arith
 
 -- the part that is lent ends at the last limit
-ends : (lines : List Float) (end last : ℕ) → end ≡ last → answerOf (valueQuestions 0 (take (end - 0) (drop 0 lines))) ≡ answerOf (valueQuestions 0 (take last lines))
+ends : (lines : List Float) (end last : ℕ) → end ≡ last → firstNotFinite (take (end - 0) (drop 0 lines)) ≡ firstNotFinite (take last lines)
 ends lines end last e = rw (e, sub-zero last)
 
-lines-say : (c : tie.After-value-refusal2) → let a = c .before .before .before .before .before .before .before .before .before .before .before .before .before .before .args in
-    c .value-refusal2 .result ≡ answerOf (valueQuestions 0 (take (lastLimit (a .rate) (a .ten-ms)) (a .lines .now)))
-lines-say c = c .value-refusal2 .ensures ∙ ends _ _ _ (c .before .before .before .before .before .before .before .last-limit .ensures)
+lines-say : (c : tie.After-first-not-finite2) → let a = c .before .before .before .before .before .before .before .before .before .before .before .before .before .before .args in
+    c .first-not-finite2 .result ≡ firstNotFinite (take (lastLimit (a .rate) (a .ten-ms)) (a .lines .now))
+lines-say c = c .first-not-finite2 .ensures ∙ ends _ _ _ (c .before .before .before .before .before .before .before .last-limit .ensures)
 
 returns : tie.Need-returns
 returns c = (no-10 _ _ _ _ _ (c .if1 .taken), refl)
@@ -60,8 +60,8 @@ returns-4 c =
     let b = e .before .before in
     (no-9-lines _ _ _ _ _ (b .before .if1 .left) (e .before .if2 .left ∙ b .bands-of .ensures) (e .if3 .left) (rw (c .before .last-limit .ensures) at (c .if4 .taken)), refl)
 
-value-refusal-requires : tie.Need-value-refusal-requires
-value-refusal-requires c κs = search needs
+first-not-finite-requires : tie.Need-first-not-finite-requires
+first-not-finite-requires c κs = search needs
 
 enum-known-number : tie.Need-enum-known-number
 enum-known-number c = search needs
@@ -69,22 +69,22 @@ enum-known-number c = search needs
 returns-5 : tie.Need-returns-5
 returns-5 c =
     let v = c .before .before .before in
-    (by-gains _ _ _ _ _ (fitting (v .before)) (sym (c .before .number .given .1) ∙ v .value-refusal .ensures), refl)
+    (by-gains _ _ _ _ _ (fitting (v .before)) (refused-value _ _ _ (sym (c .before .number .given .1) ∙ v .first-not-finite .ensures)), refl)
 
 enum-told : tie.Need-enum-told
 enum-told c = search needs
 
-sub-value-refusal : tie.Need-sub-value-refusal
-sub-value-refusal c = search needs
+sub-first-not-finite : tie.Need-sub-first-not-finite
+sub-first-not-finite c = search needs
 
-part-value-refusal-start : tie.Need-part-value-refusal-start
-part-value-refusal-start c = search needs
+part-first-not-finite-start : tie.Need-part-first-not-finite-start
+part-first-not-finite-start c = search needs
 
-part-value-refusal-end : tie.Need-part-value-refusal-end
-part-value-refusal-end c = search needs
+part-first-not-finite-end : tie.Need-part-first-not-finite-end
+part-first-not-finite-end c = search needs
 
-value-refusal-requires-2 : tie.Need-value-refusal-requires-2
-value-refusal-requires-2 c κs = search needs
+first-not-finite-requires-2 : tie.Need-first-not-finite-requires-2
+first-not-finite-requires-2 c κs = search needs
 
 enum-known-number-2 : tie.Need-enum-known-number-2
 enum-known-number-2 c = search needs
@@ -105,7 +105,7 @@ returns-6 c =
     let w = c .before .before .before in
     let t = w .before .before .before in
     let v = t .before .before in
-    (by-lines _ _ _ _ _ (fitting (v .before)) (sym (t .enum-told .given .1) ∙ v .value-refusal .ensures) (sym (c .before .number2 .given .1) ∙ lines-say w), refl)
+    (by-lines _ _ _ _ _ (fitting (v .before)) (values-taken _ (sym (t .enum-told .given .1) ∙ v .first-not-finite .ensures)) (refused-value _ _ _ (sym (c .before .number2 .given .1) ∙ lines-say w)), refl)
 
 same-length-2 : tie.Need-same-length-2
 same-length-2 c = search needs
@@ -117,9 +117,9 @@ returns-7 c =
     let w = u .before .before in
     let t = w .before .before .before in
     let v = t .before .before in
-    (by-lines _ _ _ _ _ (fitting (v .before)) (sym (t .enum-told .given .1) ∙ v .value-refusal .ensures) (sym (u .enum-told2 .given .1) ∙ lines-say w), s .shape .ensures)
+    (by-lines _ _ _ _ _ (fitting (v .before)) (values-taken _ (sym (t .enum-told .given .1) ∙ v .first-not-finite .ensures)) (values-taken _ (sym (u .enum-told2 .given .1) ∙ lines-say w)), s .shape .ensures)
 
 pub shape-spec : {M : Type 1} → statement M
 shape-spec =
     tie.close
-    (tie.spec returns bands-of-requires returns-2 returns-3 last-limit-requires returns-4 value-refusal-requires enum-known-number returns-5 enum-told sub-value-refusal part-value-refusal-start part-value-refusal-end value-refusal-requires-2 enum-known-number-2 enum-told-2 shape-requires same-length returns-6 same-length-2 returns-7)
+    (tie.spec returns bands-of-requires returns-2 returns-3 last-limit-requires returns-4 first-not-finite-requires enum-known-number returns-5 enum-told sub-first-not-finite part-first-not-finite-start part-first-not-finite-end first-not-finite-requires-2 enum-known-number-2 enum-told-2 shape-requires same-length returns-6 same-length-2 returns-7)

@@ -2,8 +2,8 @@
 use mathlib.Core.Path.{_≡_}
 use native.Mathlib.Omega.{arith}
 use Rattle.sns_tables.specs.Gains.{gainRows}
-use Rattle.sns.proofs.fields.gain_count.Statement.{statement}
-use Rattle.sns.proofs.fields.gain_count.Tie as tie
+use Rattle.shapes.proofs.gain_count.Statement.{statement}
+use Rattle.shapes.proofs.gain_count.Tie as tie
 
 returns : tie.Need-returns
 unfolding gainRows

@@ -1,7 +1,7 @@
 -- The two counts, by their tests.
 use borrow.Author.Tests.{eq-eqb, ne-eqb}
-use Rattle.sns.proofs.interpolate.count_ok.Statement.{statement}
-use Rattle.sns.proofs.interpolate.count_ok.Tie as tie
+use Rattle.interpolation.proofs.count_ok.Statement.{statement}
+use Rattle.interpolation.proofs.count_ok.Tie as tie
 
 returns : tie.Need-returns
 returns c = rw (eq-eqb _ 60 (c .if1 .taken))

@@ -2,9 +2,9 @@
 use native.Mathlib.Omega.{arith}
 use native.Mathlib.Nat.{le-refl}
 use borrow.Author.Needs.{needs}
 use Rattle.shaping.proofs.Laws.{bands-most, limit-at}
-use Rattle.sns.proofs.shape.last_limit.Statement.{statement}
-use Rattle.sns.proofs.shape.last_limit.Tie as tie
+use Rattle.shaping.proofs.last_limit.Statement.{statement}
+use Rattle.shaping.proofs.last_limit.Tie as tie
 
 band-limits-requires : tie.Need-band-limits-requires
 band-limits-requires c κs = search needs

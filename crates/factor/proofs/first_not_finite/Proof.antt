@@ -4,14 +4,13 @@ use Prim.Native.Nat.{_-_, _≤_}
 use borrow.Author.Needs.{needs}
 use borrow.Author.Tests.{not-true, not-false}
 use lib.ListN.{length, drop, drop-of-length-le}
-use Rattle.sns.specs.Answers.{answerOf}
-use Rattle.sns.specs.Elements.{valueQuestions}
-use Rattle.sns.proofs.Elements.{value-at}
-use Rattle.sns.proofs.shape.value_refusal.Statement.{statement}
-use Rattle.sns.proofs.shape.value_refusal.Tie as tie
+use Rattle.factor.specs.Check.{notFiniteFrom, firstNotFinite}
+use Rattle.factor.proofs.Laws.{value-at}
+use Rattle.factor.proofs.first_not_finite.Statement.{statement}
+use Rattle.factor.proofs.first_not_finite.Tie as tie
 
 abbrev Inv-loop : tie.InvT-loop
-Inv-loop values i₀ i = (i ≤ length values) × (answerOf (valueQuestions 0 values) ≡ answerOf (valueQuestions i (drop i values)))
+Inv-loop values i₀ i = (i ≤ length values) × (firstNotFinite values ≡ notFiniteFrom i (drop i values))
 
 abbrev μ-loop : tie.MeasureT-loop
 μ-loop values i₀ i = length values - i
@@ -45,10 +44,10 @@ loop-again c =
     (search needs, d .before .loop .inv .1 ∙ value-at _ _ _ (d .loop-test .taken) (sym (not-false _ (c .if1 .left)) ∙ c .before .is-finite .ensures))
 
 returns-2 : tie.Need-returns-2 Inv-loop μ-loop
-unfolding valueQuestions answerOf
-returns-2 c = sym (c .before .loop .inv .1 ∙ ap (λ v. answerOf (valueQuestions (c .before .loop .i) v)) (drop-of-length-le _ (c .loop-test .left)))
+unfolding notFiniteFrom
+returns-2 c = sym (c .before .loop .inv .1 ∙ ap (notFiniteFrom (c .before .loop .i)) (drop-of-length-le _ (c .loop-test .left)))
 
-pub value-refusal-spec : {M : Type 1} → statement M
-value-refusal-spec =
+pub first-not-finite-spec : {M : Type 1} → statement M
+first-not-finite-spec =
     tie.close
     (tie.spec Inv-loop μ-loop loop-holds mul-is-finite shared-slice-read-is-finite is-finite-requires returns add-i loop-less loop-again returns-2)

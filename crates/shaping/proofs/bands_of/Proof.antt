@@ -3,8 +3,8 @@ use mathlib.Core.Path.{_≡_, refl}
 use mathlib.Core.Bool.{Bool, true, false}
 use Prim.Native.Nat.{ℕ, zero, suc}
 use Rattle.sns_tables.specs.Bands.{bandsOf}
-use Rattle.sns.proofs.shape.bands_of.Statement.{statement}
-use Rattle.sns.proofs.shape.bands_of.Tie as tie
+use Rattle.shaping.proofs.bands_of.Statement.{statement}
+use Rattle.shaping.proofs.bands_of.Tie as tie
 
 later : (rate : ℕ) (ten : Bool) → (rate ≡ 0 → ⊥) → 64 ≡ bandsOf rate ten
 unfolding bandsOf

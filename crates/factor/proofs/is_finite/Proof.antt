@@ -1,21 +1,11 @@
 -- By cases on the float, each answer is what the tests that led there leave.
-use mathlib.Core.Path.{_≡_, refl, sym, ap, subst}
+use mathlib.Core.Path.{_≡_, refl, sym}
 use mathlib.Core.Bool.{true, false, false≢true}
-use lib.Dec.{T}
 use lib.Ieee.{Float, nan, inf, fin, eq, ne, ofBits, neg, nanBits}
-use lib.Ieee.Compare.{differs-from-itself}
 use Rattle.float_laws.specs.Kind.{finite}
-use Rattle.sns.proofs.shape.is_finite.Statement.{statement}
-use Rattle.sns.proofs.shape.is_finite.Tie as tie
-
-is-nan : (x : Float) → ne x x ≡ true → false ≡ finite x
-is-nan x h = ap finite (sym (differs-from-itself x (subst T (sym h) tt)))
-
-is-infinite : (x : Float) → eq x (inf false) ≡ true → false ≡ finite x
-unfolding eq
-is-infinite nan h = refl
-is-infinite (inf t) h = refl
-is-infinite (fin t m e) h = absurd (false≢true h)
+use Rattle.factor.proofs.Laws.{nan-not, infinity-not}
+use Rattle.factor.proofs.is_finite.Statement.{statement}
+use Rattle.factor.proofs.is_finite.Tie as tie
 
 is-neither : (x : Float) → ne x x ≡ false → eq x (inf false) ≡ false → ne x (inf true) ≡ finite x
 unfolding eq ne
@@ -25,7 +15,7 @@ is-neither (inf false) a b = absurd (false≢true (sym b))
 is-neither (fin s m e) a b = refl
 
 returns : tie.Need-returns
-returns c = is-nan _ (c .if1 .taken)
+returns c = sym (nan-not _ (c .if1 .taken))
 
 float-from-bits-infinity : tie.Need-float-from-bits-infinity
 unfolding nanBits
@@ -33,7 +23,7 @@ float-from-bits-infinity c = tt
 
 returns-2 : tie.Need-returns-2
 unfolding ofBits
-returns-2 c = is-infinite _ (c .if2 .taken)
+returns-2 c = sym (infinity-not _ false (c .if2 .taken))
 
 returns-3 : tie.Need-returns-3
 unfolding ofBits neg
