@@ -88,28 +88,51 @@ struct Left {
     rest: u32,
 }
 
-// The column and the rest (see `column`) by a walk, one column after the other. Column 0 has offset 0, so the walk ends
-// there at the latest.
+// The column and the rest (see `column`) by halving: the column lies from `low` to `high`, and a look at the middle leaves
+// one half. `offset` is that of `low`, at most the index: column 0, with offset 0, is such a one from the start.
+fn column_halved(n: usize, k: usize, ind: u32) -> Left
+    requires { ⌜ (n < 16) × (k < 11) ⌝ }
+    ensures { λ r. ⌜ (r .pulses ≡ columnOf n k ind) × (r .rest ≡ ind - offsetOf n (columnOf n k ind)) ⌝ }
+{
+    let mut low = 0;
+    let mut high = k;
+    let mut offset = 0;
+    while low < high {
+        let middle = (low + high + 1) / 2;
+        let met = mpvq_offset(n, middle);
+        if ind < met {
+            high = middle - 1;
+        } else {
+            low = middle;
+            offset = met;
+        }
+    }
+    Left {
+        pulses: low,
+        rest: ind - offset,
+    }
+}
+
+// The column and the rest (see `column`): k itself is looked at first, since most places take few pulses, and the columns
+// below it are halved.
 fn column_down(n: usize, k: usize, ind: u32) -> Left
     requires { ⌜ (n < 16) × (k < 11) ⌝ }
     ensures { λ r. ⌜ (r .pulses ≡ columnOf n k ind) × (r .rest ≡ ind - offsetOf n (columnOf n k ind)) ⌝ }
 {
-    let mut k_acc = k;
-    let mut offset = mpvq_offset(n, k_acc);
-    while ind < offset {
-        k_acc -= 1;
-        offset = mpvq_offset(n, k_acc);
+    let offset = mpvq_offset(n, k);
+    if ind < offset {
+        return column_halved(n, k - 1, ind);
     }
     Left {
-        pulses: k_acc,
+        pulses: k,
         rest: ind - offset,
     }
 }
 
 // The greatest column, from k down, whose offset is at most the index: the pulses left after a place; and the rest of the
-// index. Columns k, k - 1 and k - 2, which stand side by side in the table, are looked at before any walk. The offsets of a
-// row never fall from column to column, so one question sends the walk further down, and the other two, which only set two
-// numbers, need no branch.
+// index. Columns k, k - 1 and k - 2, which stand side by side in the table, are looked at before any other. The offsets of
+// a row never fall from column to column, so one question sends the search further down, and the other two, which only set
+// two numbers, need no branch.
 fn column(n: usize, k: usize, ind: u32) -> Left
     requires { ⌜ (n < 16) × (k < 11) × (2 ≤ k) ⌝ }
     ensures { λ r. ⌜ (r .pulses ≡ columnOf n k ind) × (r .rest ≡ ind - offsetOf n (columnOf n k ind)) ⌝ }
