@@ -30,19 +30,30 @@ column n (suc m) i = go (leb (offsetOf n (suc m)) i) refl (column n m i)
         last (inl p) = rw p (leb-false (offsetOf n (suc m)) i e)
         last (inr q) = c .high q
 
+-- what a look at column m tells of the one found
+
+pub column-from : (n k m i : ℕ) → m ≤ k → offsetOf n m ≤ i → m ≤ columnOf n k i
+column-from n k m i l h =
+    let c = column n k i in
+    let p : columnOf n k i < m → ⊥ = λ q. omega (arith, mono n (suc (columnOf n k i)) m q, c .high (omega arith), h) in
+    omega arith
+
+pub column-under : (n k m i : ℕ) → i < offsetOf n m → columnOf n k i < m
+column-under n k m i h =
+    let p : m ≤ columnOf n k i → ⊥ = λ q. omega (arith, mono n m (columnOf n k i) q, column n k i .low, h) in
+    omega arith
+
 -- no other column is such a one
 pub column-is : (n m i k : ℕ) → Column n m i k → columnOf n m i ≡ k
-column-is n m i k d =
-    let c = column n m i in
-    let p : columnOf n m i < k → ⊥ = λ q. omega (arith, mono n (suc (columnOf n m i)) k q, c .high (omega (arith, d .within)), d .low) in
-    let r : k < columnOf n m i → ⊥ = λ q. omega (arith, mono n (suc k) (columnOf n m i) q, d .high (omega (arith, c .within)), c .low) in
-    omega arith
+column-is n m i k d = go (eq-or-lt-of-le (d .within)) (column-from n m k i (d .within) (d .low))
+  where
+    go : (k ≡ m) ⊎ (k < m) → k ≤ columnOf n m i → columnOf n m i ≡ k
+    go (inl e) h = omega (arith, column n m i .within)
+    go (inr l) h = omega (arith, column-under n m (suc k) i (d .high l))
 
 -- index 0 leaves no pulse
 pub column-zero : (n k : ℕ) → columnOf n k 0 ≡ 0
 column-zero n k = column-is n k 0 0 (record { within = omega arith; low = omega (arith, first n); high = λ h. above-zero n 0 })
-
--- the walk down, one column at a time
 
 pub column-stays : (n k i : ℕ) → offsetOf n k ≤ i → columnOf n k i ≡ k
 column-stays n k i h = column-is n k i k (record { within = omega arith; low = h; high = λ q. absurd (omega arith) })

@@ -88,40 +88,37 @@ struct Left {
     rest: u32,
 }
 
-// The column and the rest (see `column`) by halving: the column lies from `low` to `high`, and a look at the middle leaves
-// one half. `offset` is that of `low`, at most the index: column 0, with offset 0, is such a one from the start.
-fn column_halved(n: usize, k: usize, ind: u32) -> Left
-    requires { ⌜ (n < 16) × (k < 11) ⌝ }
-    ensures { λ r. ⌜ (r .pulses ≡ columnOf n k ind) × (r .rest ≡ ind - offsetOf n (columnOf n k ind)) ⌝ }
+// The greatest column of a whole row whose offset is at most the index, and the rest of the index, by halving: it is one of
+// `width` columns, from `low` on, and a look at the middle leaves one half of them. Column 0 has offset 0, so there is one.
+// Rows are equally long, so the looks are always four, and none needs a branch.
+fn column_halved(n: usize, ind: u32) -> Left
+    requires { ⌜ n < 16 ⌝ }
+    ensures { λ r. ⌜ (r .pulses ≡ columnOf n 10 ind) × (r .rest ≡ ind - offsetOf n (columnOf n 10 ind)) ⌝ }
 {
     let mut low = 0;
-    let mut high = k;
-    let mut offset = 0;
-    while low < high {
-        let middle = (low + high + 1) / 2;
-        let met = mpvq_offset(n, middle);
-        if ind < met {
-            high = middle - 1;
-        } else {
-            low = middle;
-            offset = met;
+    let mut width = 11;
+    while 1 < width {
+        let half = width / 2;
+        width -= half;
+        if mpvq_offset(n, low + half) <= ind {
+            low += half;
         }
     }
     Left {
         pulses: low,
-        rest: ind - offset,
+        rest: ind - mpvq_offset(n, low),
     }
 }
 
-// The column and the rest (see `column`): k itself is looked at first, since most places take few pulses, and the columns
-// below it are halved.
+// The column and the rest (see `column`): k is looked at first, since most places take few pulses. If it is not the one, nor
+// is any column above it, and the row is halved.
 fn column_down(n: usize, k: usize, ind: u32) -> Left
     requires { ⌜ (n < 16) × (k < 11) ⌝ }
     ensures { λ r. ⌜ (r .pulses ≡ columnOf n k ind) × (r .rest ≡ ind - offsetOf n (columnOf n k ind)) ⌝ }
 {
     let offset = mpvq_offset(n, k);
     if ind < offset {
-        return column_halved(n, k - 1, ind);
+        return column_halved(n, ind);
     }
     Left {
         pulses: k,
