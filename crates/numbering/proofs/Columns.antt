@@ -58,13 +58,13 @@ column-zero n k = column-is n k 0 0 (record { within = omega arith; low = omega 
 pub column-stays : (n k i : ℕ) → offsetOf n k ≤ i → columnOf n k i ≡ k
 column-stays n k i h = column-is n k i k (record { within = omega arith; low = h; high = λ q. absurd (omega arith) })
 
--- a column m whose offset is above the index is not 0, and the one found is below it
-pub column-falls : (n k m i : ℕ) → m ≤ k → i < offsetOf n m → (0 < m) × (columnOf n k i ≡ columnOf n (m - 1) i)
+-- the offset of column m is above the index: from m - 1, or any column above it, down, the same is found
+pub column-falls : (n k m i : ℕ) → m ≤ suc k → i < offsetOf n m → columnOf n k i ≡ columnOf n (m - 1) i
 column-falls n k zero i l h = absurd (omega (arith, first n))
 column-falls n k (suc j) i l h =
     let c = column n j i in
     let e : suc j - 1 ≡ j = omega arith in
-    (omega arith, rw e (column-is n k i (columnOf n j i) (record { within = omega (arith, c .within); low = c .low; high = λ q. last c (eq-or-lt-of-le (c .within)) })))
+    rw e (column-is n k i (columnOf n j i) (record { within = omega (arith, c .within); low = c .low; high = λ q. last c (eq-or-lt-of-le (c .within)) }))
   where
     last : Column n j i (columnOf n j i) → (columnOf n j i ≡ j) ⊎ (columnOf n j i < j) → i < offsetOf n (suc (columnOf n j i))
     last c (inl p) = rw p h
@@ -83,7 +83,7 @@ found-here n k i o e l = record { is = column-stays n k i (omega arith); offset 
 pub found-next : (n k i c o p : ℕ) → suc c ≤ k → p ≡ offsetOf n (suc c) → i < p → o ≡ offsetOf n c → o ≤ i → Found n k i c o
 found-next n k i c o p l f h e g =
     let z : suc c - 1 ≡ c = omega arith in
-    record { is = (rw z at (column-falls n k (suc c) i l (omega arith) .1)) ∙ column-stays n c i (omega arith); offset = e; low = g }
+    record { is = (rw z at (column-falls n k (suc c) i (omega arith) (omega arith))) ∙ column-stays n c i (omega arith); offset = e; low = g }
 
 -- what is left of the index
 pub left-is : (n k i c o : ℕ) → Found n k i c o → (c ≡ columnOf n k i) × (i - o ≡ i - offsetOf n (columnOf n k i))

@@ -88,48 +88,35 @@ struct Left {
     rest: u32,
 }
 
-// The greatest column of a whole row whose offset is at most the index, and the rest of the index, by halving: it is one of
-// `width` columns, from `low` on, and a look at the middle leaves one half of them. Column 0 has offset 0, so there is one.
-// Rows are equally long, so the looks are always four, and none needs a branch.
+// The greatest of columns 0 to 7 whose offset is at most the index, and the rest of the index, by halving: it is one of
+// `width` columns, from `low` on, and a look at the middle leaves one half of them. `offset` is that of `low`: column 0,
+// where it starts, has offset 0. Eight columns take three looks, whatever the index, and none needs a branch.
 fn column_halved(n: usize, ind: u32) -> Left
     requires { ⌜ n < 16 ⌝ }
-    ensures { λ r. ⌜ (r .pulses ≡ columnOf n 10 ind) × (r .rest ≡ ind - offsetOf n (columnOf n 10 ind)) ⌝ }
+    ensures { λ r. ⌜ (r .pulses ≡ columnOf n 7 ind) × (r .rest ≡ ind - offsetOf n (columnOf n 7 ind)) ⌝ }
 {
     let mut low = 0;
-    let mut width = 11;
+    let mut offset = 0;
+    let mut width = 8;
     while 1 < width {
         let half = width / 2;
         width -= half;
-        if mpvq_offset(n, low + half) <= ind {
+        let met = mpvq_offset(n, low + half);
+        if met <= ind {
             low += half;
+            offset = met;
         }
     }
     Left {
         pulses: low,
-        rest: ind - mpvq_offset(n, low),
-    }
-}
-
-// The column and the rest (see `column`): k is looked at first, since most places take few pulses. If it is not the one, nor
-// is any column above it, and the row is halved.
-fn column_down(n: usize, k: usize, ind: u32) -> Left
-    requires { ⌜ (n < 16) × (k < 11) ⌝ }
-    ensures { λ r. ⌜ (r .pulses ≡ columnOf n k ind) × (r .rest ≡ ind - offsetOf n (columnOf n k ind)) ⌝ }
-{
-    let offset = mpvq_offset(n, k);
-    if ind < offset {
-        return column_halved(n, ind);
-    }
-    Left {
-        pulses: k,
         rest: ind - offset,
     }
 }
 
 // The greatest column, from k down, whose offset is at most the index: the pulses left after a place; and the rest of the
-// index. Columns k, k - 1 and k - 2, which stand side by side in the table, are looked at before any other. The offsets of
-// a row never fall from column to column, so one question sends the search further down, and the other two, which only set
-// two numbers, need no branch.
+// index. Columns k, k - 1 and k - 2, which stand side by side in the table, are looked at before any other, since most
+// places take few pulses. The offsets of a row never fall from column to column: one question sends the search to the at
+// most eight columns below, and the other two, which only set two numbers, need no branch.
 fn column(n: usize, k: usize, ind: u32) -> Left
     requires { ⌜ (n < 16) × (k < 11) × (2 ≤ k) ⌝ }
     ensures { λ r. ⌜ (r .pulses ≡ columnOf n k ind) × (r .rest ≡ ind - offsetOf n (columnOf n k ind)) ⌝ }
@@ -139,16 +126,16 @@ fn column(n: usize, k: usize, ind: u32) -> Left
     let second = offset_at(at - 1);
     let third = offset_at(at - 2);
     if ind < third {
-        return column_down(n, k - 3, ind);
+        return column_halved(n, ind);
     }
     let mut pulses = k;
     let mut offset = first;
     if ind < first {
-        pulses = k - 1;
+        pulses -= 1;
         offset = second;
     }
     if ind < second {
-        pulses = k - 2;
+        pulses -= 1;
         offset = third;
     }
     Left {
