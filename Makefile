@@ -8,7 +8,7 @@ help:
 	@echo 'make staticlib the library for C and Rust: target/staticlib/libsns_c.a, with include/lc3_sns.h'
 	@echo 'make bindings  the library called from C and from bindings/rust (see tests/bindings.sh)'
 	@echo 'make compare   the port beside the Rust, bit for bit: encoder, numbering, decoder, shaping; and refusals by the table'
-	@echo 'make bench     encode, pack and unpack timed beside the Rust, both in one run'
+	@echo 'make bench     encode, pack and unpack timed beside the Rust, in one run; BEFORE=COMMIT adds the unpack of that commit'
 	@echo 'make format    lay out every Rattle and antt file'
 	@echo 'make tables    make the recorded tables anew from the Rust source (see tests/tables/record.sh)'
 	@echo 'make frames    make the recorded frames and answers anew from the Rust (see tests/frames/README.md)'
@@ -40,8 +40,8 @@ compare: kit
 	tests/rust/beside.sh sns_c tests/rust/quant.rs tests/rust/numbering.rs tests/rust/decoder.rs tests/rust/refusals.rs tests/rust/differences.rs
 
 bench: kit
-	bench/run.sh sns_c bench/quant.rs
-	tests/rust/beside.sh sns_c bench/numbering.rs
+	bench/run.sh sns_c bench/quant.rs 'encode, scale 64'
+	bench/run.sh sns_c bench/numbering.rs 'unpack (10,10)' 'unpack (6,1)' 'unpack (16,8)' 'unpack (16,6)'
 
 staticlib: kit
 	rt staticlib sns_c

@@ -31,10 +31,29 @@ fn lists(what: &str) -> Vec<(String, Vec<Vector>)> {
     PAIRS.iter().map(|p| (format!("{what} ({},{})", p.0, p.1), vectors(*p))).collect()
 }
 
-fn our_unpack(v: &Vector) -> [i32; 16] {
+type Unpack = unsafe extern "C" fn(dimension: u32, pulses: u32, sign: u32, index: u32, vector: *mut i32, vector_len: usize) -> lc3_sns::raw::Code;
+
+extern "C" {
+    fn lc3_sns_unpack(dimension: u32, pulses: u32, sign: u32, index: u32, vector: *mut i32, vector_len: usize) -> lc3_sns::raw::Code;
+    // the unpack of an earlier commit, for `make bench BEFORE=COMMIT`
+    #[cfg(before)]
+    fn before_lc3_sns_unpack(dimension: u32, pulses: u32, sign: u32, index: u32, vector: *mut i32, vector_len: usize) -> lc3_sns::raw::Code;
+}
+
+#[inline(always)]
+fn unpacked(call: Unpack, v: &Vector) -> [i32; 16] {
     let mut places = [0; 16];
-    lc3_sns::raw::unpack(v.dimension as u32, v.pulses as u32, v.sign as u32, v.index as u32, &mut places[..v.dimension]);
+    unsafe { call(v.dimension as u32, v.pulses as u32, v.sign as u32, v.index as u32, places.as_mut_ptr(), v.dimension) };
     places
+}
+
+fn our_unpack(v: &Vector) -> [i32; 16] {
+    unpacked(lc3_sns_unpack, v)
+}
+
+#[cfg(before)]
+fn before_unpack(v: &Vector) -> [i32; 16] {
+    unpacked(before_lc3_sns_unpack, v)
 }
 
 fn rust_unpack(v: &Vector) -> [i32; 16] {
@@ -53,6 +72,12 @@ fn rust_pack(v: &Vector) -> (usize, i32) {
 }
 
 fn main() {
-    timing::main(&lists("unpack"), our_unpack, rust_unpack);
-    timing::main(&lists("pack"), our_pack, rust_pack);
+    let unpacks: &[timing::Side<Vector, [i32; 16]>] = &[
+        #[cfg(before)]
+        ("before", before_unpack),
+        ("ours", our_unpack),
+        ("the Rust", rust_unpack),
+    ];
+    timing::main(&lists("unpack"), unpacks);
+    timing::main(&lists("pack"), &[("ours", our_pack as fn(&Vector) -> (usize, i32)), ("the Rust", rust_pack)]);
 }

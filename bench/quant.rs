@@ -23,5 +23,5 @@ fn rust(x: &Factors) -> Answer {
 }
 
 fn main() {
-    timing::main(&[64, 4, 1].map(|scale| (format!("encode, scale {scale}"), inputs::timed(scale))), ours, rust);
+    timing::main(&[64, 4, 1].map(|scale| (format!("encode, scale {scale}"), inputs::timed(scale))), &[("ours", ours as fn(&Factors) -> Answer), ("the Rust", rust)]);
 }

@@ -25,5 +25,5 @@ fn rust(x: &Factors) -> Answer {
 }
 
 fn main() {
-    timing::main(&[64, 4, 1].map(|scale| (format!("stage 1, scale {scale}"), inputs::timed(scale))), ours, rust);
+    timing::main(&[64, 4, 1].map(|scale| (format!("stage 1, scale {scale}"), inputs::timed(scale))), &[("ours", ours as fn(&Factors) -> Answer), ("the Rust", rust)]);
 }

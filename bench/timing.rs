@@ -1,5 +1,7 @@
-//! Two functions timed on the same inputs: processor time, rounds interleaved, the best and the median of the rounds.
+//! Functions timed on the same inputs: processor time, rounds interleaved, the best and the median of the rounds.
 use std::hint::black_box;
+
+const ROUNDS: usize = 21;
 
 #[repr(C)]
 struct Timespec {
@@ -28,29 +30,47 @@ fn round<T, A>(call: fn(&T) -> A, inputs: &[T]) -> f64 {
     (processor_time() - start) / inputs.len() as f64
 }
 
-/// Prints both times in nanoseconds a call, and the ratio of ours to the Rust's, after every answer was compared.
-fn compare<T, A: PartialEq>(what: &str, inputs: &[T], ours: fn(&T) -> A, rust: fn(&T) -> A) {
-    const ROUNDS: usize = 21;
-    let differ = inputs.iter().filter(|x| ours(x) != rust(x)).count();
-    assert_eq!(differ, 0, "{what}: {differ} of {} answers differ", inputs.len());
-    let (mut a, mut b): (Vec<f64>, Vec<f64>) = (0..ROUNDS).map(|_| (round(ours, inputs), round(rust, inputs))).unzip();
-    a.sort_by(f64::total_cmp);
-    b.sort_by(f64::total_cmp);
-    let middle = ROUNDS / 2;
-    println!(
-        "{what}: ours {:.0} ns (median {:.0}), the Rust {:.0} ns (median {:.0}), ratio {:.3} (of medians {:.3}); {} answers equal",
-        a[0], a[middle], b[0], b[middle], a[0] / b[0], a[middle] / b[middle], inputs.len()
-    );
+/// What is timed: its name, and the function.
+pub type Side<T, A> = (&'static str, fn(&T) -> A);
+
+/// The sorted times of each side, in nanoseconds a call; the sides take turns.
+fn times<T, A>(inputs: &[T], sides: &[Side<T, A>]) -> Vec<Vec<f64>> {
+    let mut times = vec![Vec::new(); sides.len()];
+    for _ in 0..ROUNDS {
+        times.iter_mut().zip(sides).for_each(|(t, (_, call))| t.push(round(*call, inputs)));
+    }
+    times.iter_mut().for_each(|t| t.sort_by(f64::total_cmp));
+    times
 }
 
-/// What a bench does with its lists of inputs. `count ours`, `count rust`, `count none`: 2000 calls of one or of neither on
-/// the first list, for an instruction counter. Otherwise every list is timed.
-pub fn main<T, A: PartialEq>(lists: &[(String, Vec<T>)], ours: fn(&T) -> A, rust: fn(&T) -> A) {
-    let words: Vec<String> = std::env::args().collect();
-    match words.get(2).map(String::as_str) {
-        Some("ours") => drop(round(ours, &lists[0].1[..2000])),
-        Some("rust") => drop(round(rust, &lists[0].1[..2000])),
-        Some(_) => (),
-        None => lists.iter().for_each(|(what, inputs)| compare(what, inputs, ours, rust)),
+/// Prints the best and the median time of each side, and its ratio to the last side, after every answer was compared with that one's.
+fn compare<T, A: PartialEq>(what: &str, inputs: &[T], sides: &[Side<T, A>]) {
+    let (last, others) = sides.split_last().expect("a side");
+    for (name, call) in others {
+        let differ = inputs.iter().filter(|x| call(x) != last.1(x)).count();
+        assert_eq!(differ, 0, "{what}, {name}: {differ} of {} answers differ", inputs.len());
+    }
+    let times = times(inputs, sides);
+    let (best, median) = (|t: &Vec<f64>| t[0], |t: &Vec<f64>| t[ROUNDS / 2]);
+    let measure = &times[others.len()];
+    print!("{what}:");
+    for ((name, _), t) in others.iter().zip(&times) {
+        print!(" {name} {:.0} ns (median {:.0}), ratio {:.3} (of medians {:.3});", best(t), median(t), best(t) / best(measure), median(t) / median(measure));
+    }
+    println!(" {} {:.0} ns (median {:.0}); {} answers equal", last.0, best(measure), median(measure), inputs.len());
+}
+
+/// What a bench does with its lists of inputs. `count LIST SIDE`: 2000 calls of that side on that list, for an instruction
+/// counter, or none where there is no such side. Otherwise every list is timed.
+pub fn main<T, A: PartialEq>(lists: &[(String, Vec<T>)], sides: &[Side<T, A>]) {
+    let words: Vec<String> = std::env::args().skip(2).collect();
+    let [list, side] = &words[..] else {
+        lists.iter().for_each(|(what, inputs)| compare(what, inputs, sides));
+        return;
+    };
+    for (_, inputs) in lists.iter().filter(|l| l.0 == *list) {
+        for (_, call) in sides.iter().filter(|s| s.0 == side) {
+            round(*call, &inputs[..2000]);
+        }
     }
 }
