@@ -1,7 +1,7 @@
 #!/bin/sh
 # bench/before.sh COMMIT ARCHIVE: the public archive as an earlier commit has it, proved and built in target/before, as
 # libbefore.a, each public name with `before_` in front, so that one program can link it beside ARCHIVE, today's. In both every
-# function is moved to a multiple of 64: where the linker happens to put a function changes its time by up to a quarter.
+# function is moved to a multiple of 64: where the linker happens to put a function changes its time by up to a third.
 set -eu
 cd "$(dirname "$0")/.."
 commit=$(git rev-parse --verify -q "$1^{commit}") || { echo "bench: there is no commit $1" >&2; exit 1; }

@@ -31,30 +31,23 @@ fn lists(what: &str) -> Vec<(String, Vec<Vector>)> {
     PAIRS.iter().map(|p| (format!("{what} ({},{})", p.0, p.1), vectors(*p))).collect()
 }
 
-type Unpack = unsafe extern "C" fn(dimension: u32, pulses: u32, sign: u32, index: u32, vector: *mut i32, vector_len: usize) -> lc3_sns::raw::Code;
-
-extern "C" {
-    fn lc3_sns_unpack(dimension: u32, pulses: u32, sign: u32, index: u32, vector: *mut i32, vector_len: usize) -> lc3_sns::raw::Code;
-    // the unpack of an earlier commit, for `make bench BEFORE=COMMIT`
-    #[cfg(before)]
-    fn before_lc3_sns_unpack(dimension: u32, pulses: u32, sign: u32, index: u32, vector: *mut i32, vector_len: usize) -> lc3_sns::raw::Code;
+macro_rules! unpack_by {
+    ($name:ident, $symbol:ident) => {
+        fn $name(v: &Vector) -> [i32; 16] {
+            extern "C" {
+                fn $symbol(dimension: u32, pulses: u32, sign: u32, index: u32, vector: *mut i32, vector_len: usize) -> lc3_sns::raw::Code;
+            }
+            let mut places = [0; 16];
+            unsafe { $symbol(v.dimension as u32, v.pulses as u32, v.sign as u32, v.index as u32, places.as_mut_ptr(), v.dimension) };
+            places
+        }
+    };
 }
 
-#[inline(always)]
-fn unpacked(call: Unpack, v: &Vector) -> [i32; 16] {
-    let mut places = [0; 16];
-    unsafe { call(v.dimension as u32, v.pulses as u32, v.sign as u32, v.index as u32, places.as_mut_ptr(), v.dimension) };
-    places
-}
-
-fn our_unpack(v: &Vector) -> [i32; 16] {
-    unpacked(lc3_sns_unpack, v)
-}
-
+unpack_by!(our_unpack, lc3_sns_unpack);
+// of an earlier commit (before.sh)
 #[cfg(before)]
-fn before_unpack(v: &Vector) -> [i32; 16] {
-    unpacked(before_lc3_sns_unpack, v)
-}
+unpack_by!(before_unpack, before_lc3_sns_unpack);
 
 fn rust_unpack(v: &Vector) -> [i32; 16] {
     let mut places = [0; 16];

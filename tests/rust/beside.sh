@@ -14,12 +14,12 @@ fi
 tests/rust/build.sh
 bench/native.sh "$crate" "target/rust/lib$crate.a"
 flags='--edition 2021 -C opt-level=3 -L target/rust'
+# shellcheck disable=SC2086
+rustc $flags --crate-type rlib --crate-name lc3_sns --out-dir target/rust bindings/rust/src/lib.rs
 if [ -n "${BEFORE:-}" ]; then
     bench/before.sh "$BEFORE" "target/rust/lib$crate.a"
     flags="$flags --cfg before -L target/before -l static=before"
 fi
-# shellcheck disable=SC2086
-rustc $flags --crate-type rlib --crate-name lc3_sns --out-dir target/rust bindings/rust/src/lib.rs
 for driver in "$@"; do
     program=target/rust/$(echo "${driver%.rs}" | tr / -)
     # shellcheck disable=SC2086
