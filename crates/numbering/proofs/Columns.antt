@@ -53,22 +53,19 @@ column-is n m i k d = go (eq-or-lt-of-le (d .within)) (column-from n m k i (d .w
 
 -- index 0 leaves no pulse
 pub column-zero : (n k : ℕ) → columnOf n k 0 ≡ 0
-column-zero n k = column-is n k 0 0 (record { within = omega arith; low = omega (arith, first n); high = λ h. above-zero n 0 })
+column-zero n k = omega (arith, column-under n k 1 0 (above-zero n 0))
 
 pub column-stays : (n k i : ℕ) → offsetOf n k ≤ i → columnOf n k i ≡ k
-column-stays n k i h = column-is n k i k (record { within = omega arith; low = h; high = λ q. absurd (omega arith) })
+column-stays n k i h = omega (arith, column n k i .within, column-from n k k i (omega arith) h)
 
 -- the offset of column m is above the index: from m - 1, or any column above it, down, the same is found
 pub column-falls : (n k m i : ℕ) → m ≤ suc k → i < offsetOf n m → columnOf n k i ≡ columnOf n (m - 1) i
-column-falls n k zero i l h = absurd (omega (arith, first n))
-column-falls n k (suc j) i l h =
-    let c = column n j i in
-    let e : suc j - 1 ≡ j = omega arith in
-    rw e (column-is n k i (columnOf n j i) (record { within = omega (arith, c .within); low = c .low; high = λ q. last c (eq-or-lt-of-le (c .within)) }))
-  where
-    last : Column n j i (columnOf n j i) → (columnOf n j i ≡ j) ⊎ (columnOf n j i < j) → i < offsetOf n (suc (columnOf n j i))
-    last c (inl p) = rw p h
-    last c (inr q) = c .high q
+column-falls n k m i l h =
+    let under = column-under n k m i h in
+    let d = column n (m - 1) i in
+    let up = column-from n k (columnOf n (m - 1) i) i (omega (arith, d .within)) (d .low) in
+    let down = column-from n (m - 1) (columnOf n k i) i (omega (arith, under)) (column n k i .low) in
+    omega (arith, up, down)
 
 -- a column c that is the one found, with its offset o
 pub record Found (n k i c o : ℕ) : Type 0 where
