@@ -14,6 +14,7 @@ use Rattle.float_laws.specs.Scan.{leastTo}
 use Rattle.list_laws.specs.ListOf.{listOf}
 use Rattle.list_laws.proofs.ListOf.{getD-listOf}
 use Rattle.roots.specs.Root.{rootOf}
+use Rattle.sns_tables.specs.Gains.{gainAt}
 use Rattle.shape_search.specs.Projection.{nought}
 use Rattle.shape_search.specs.Shape.{squareTo}
 use Rattle.candidates.specs.Candidate.{signedOf, signedAt, lengthOf, distortionOf}
@@ -51,6 +52,10 @@ square-fits x h = mul-le-mul (under x h) (under x h)
     under x h = omega arith
 
 -- ---- a choice, as the code reads it
+pub gain-is : (k : ℕ) (c : Choice) (g : Float) → c ≡ choiceAt k → g ≡ gainAt (c .shape) (c .gain) → g ≡ gainOf k
+unfolding gainOf
+gain-is k c g e h = rw e at h
+
 pub distortion-is : (t : List Float) (q : List (List Float)) (gains : List Float) (k : ℕ) (c : Choice) (d : Float) → k < choices → gains ≡ listOf choices gainOf → c ≡ choiceAt k
     → d ≡ distortionOf t (getD q (c .shape) []) (getD gains k nan) → d ≡ distortionAt t q k
 unfolding distortionAt

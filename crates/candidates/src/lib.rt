@@ -112,26 +112,14 @@ pub fn choice_at(k: usize) -> Choice
 pub fn scanned_gains() -> [f32; CHOICES]
     ensures { λ r. ⌜ r ≡ listOf choices gainOf ⌝ }
 {
-    let reg = sns_tables::spec_noise_shape_quant_tables::sns_vq_reg_adj_gains();
-    let reg_lf = sns_tables::spec_noise_shape_quant_tables::sns_vq_reg_lf_adj_gains();
-    let near = sns_tables::spec_noise_shape_quant_tables::sns_vq_near_adj_gains();
-    let far = sns_tables::spec_noise_shape_quant_tables::sns_vq_far_adj_gains();
-    [
-        reg[0],
-        reg_lf[0],
-        reg_lf[1],
-        reg_lf[2],
-        near[0],
-        near[1],
-        near[2],
-        far[0],
-        far[1],
-        far[2],
-        far[3],
-        far[4],
-        far[5],
-        far[6],
-    ]
+    let mut gains = [0.0f32; CHOICES];
+    let mut k = 0usize;
+    while k < CHOICES {
+        let c = choice_at(k);
+        gains[k] = shapes::adj_gain(c.shape, c.gain);
+        k += 1;
+    }
+    gains
 }
 
 // The distortion of a shape's candidate under a gain.

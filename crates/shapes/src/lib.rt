@@ -1,10 +1,11 @@
 // The shapes: each set of pulse vectors states its dimension, pulse count and size as constants of a type of its own,
-// and PulseSet's constructors read them from there; and how many gains a shape has. Public for the crates above only;
-// every result is pinned.
+// and PulseSet's constructors read them from there; and the gains of a shape, how many and each. Public for the crates
+// above only; every result is pinned.
 ghost use mathlib.Core.Path.{_≡_};
 ghost use Prim.Native.Nat.{_<_};
-ghost use Rattle.sns_tables.specs.Gains.{gainsOf};
+ghost use Rattle.sns_tables.specs.Gains.{gainsOf, gainAt};
 ghost use Rattle.shapes.specs.Sets.{setA, setB, foundOf};
+use sns_tables::spec_noise_shape_quant_tables as tables;
 
 // Shape 0, set A: ten pulses on places 0 to 9.
 pub struct RegularA {}
@@ -154,5 +155,18 @@ pub fn gain_count(shape: u32) -> u32
         1 => 4,
         2 => 4,
         _ => 8,
+    }
+}
+
+// A shape's gain, by its number.
+pub fn adj_gain(shape: usize, gain: usize) -> f32
+    requires { ⌜ (shape < 4) × (gain < gainsOf shape) ⌝ }
+    ensures { λ r. ⌜ r ≡ gainAt shape gain ⌝ }
+{
+    match shape {
+        0 => tables::sns_vq_reg_adj_gains()[gain],
+        1 => tables::sns_vq_reg_lf_adj_gains()[gain],
+        2 => tables::sns_vq_near_adj_gains()[gain],
+        _ => tables::sns_vq_far_adj_gains()[gain],
     }
 }

@@ -8,11 +8,10 @@ ghost use lib.Ieee.{nan, binary32, ofInt};
 ghost use Rattle.list_laws.specs.ListOf.{listOf};
 ghost use Rattle.sns_tables.specs.Codebooks.{lfcbRows, hfcbRows};
 ghost use Rattle.sns_tables.specs.Rotation.{dColumns};
-ghost use Rattle.sns_tables.specs.Gains.{gainsOf, gainAt};
+ghost use Rattle.sns_tables.specs.Gains.{gainsOf};
 ghost use Rattle.roots.specs.Root.{rootTable};
 ghost use Rattle.sns_tables.specs.Codes.{codeOf};
 ghost use Rattle.synthesis.specs.Synthesis.{Accepted, Sixteen, squaresOf, scaleOf, columnsTo, synthesised, floatsOf, factorsOf};
-use sns_tables::spec_noise_shape_quant_tables as tables;
 
 // A pulse squared.
 fn square(y: i32) -> usize
@@ -58,25 +57,12 @@ fn floats(y: &[i32; 16]) -> [f32; 16]
     x
 }
 
-// A shape's gain.
-fn adj_gain(shape: usize, gain: usize) -> f32
-    requires { ⌜ (shape < 4) × (gain < gainsOf shape) ⌝ }
-    ensures { λ r. ⌜ r ≡ gainAt shape gain ⌝ }
-{
-    match shape {
-        0 => tables::sns_vq_reg_adj_gains()[gain],
-        1 => tables::sns_vq_reg_lf_adj_gains()[gain],
-        2 => tables::sns_vq_near_adj_gains()[gain],
-        _ => tables::sns_vq_far_adj_gains()[gain],
-    }
-}
-
 // The gain divided by the pulses' length.
 fn scale(roots: &[f32; 101], shape: usize, gain: usize, y: &[i32; 16]) -> f32
     requires { ⌜ (now roots ≡ rootTable) × (shape < 4) × (gain < gainsOf shape) × Sixteen (now y) ⌝ }
     ensures { λ r. ⌜ r ≡ scaleOf shape gain (now (y .entry)) ⌝ }
 {
-    adj_gain(shape, gain) / roots::root(roots, squared_length(y))
+    shapes::adj_gain(shape, gain) / roots::root(roots, squared_length(y))
 }
 
 // The codes of a low row and a high row, from their lent tables.

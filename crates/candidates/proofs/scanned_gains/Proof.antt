@@ -1,89 +1,60 @@
--- The gains of the choices, computed.
-use Prim.Native.Nat.{_-_}
-use borrow.Author.Needs.{needs}
-use Rattle.list_laws.specs.ListOf.{listOf}
-use Rattle.candidates.specs.Scan.{gainsScanned, scannedFrom, scanned, gainOf}
+-- The loop fills the list of gains from the first choice up.
+use mathlib.Core.Path.{_≡_, sym}
+use Prim.Native.Nat.{_≤_, _-_}
+use native.Mathlib.Omega.{arith}
+use Rattle.list_laws.proofs.Fill.{over, over-none, over-more}
+use Rattle.list_laws.proofs.Full.{full}
+use Rattle.candidates.specs.Scan.{choices, gainOf}
+use Rattle.candidates.proofs.Candidates.{gain-is}
+use Rattle.candidates.proofs.Choices.{choices-are, choice-shape, choice-gain}
 use Rattle.candidates.proofs.scanned_gains.Statement.{statement}
 use Rattle.candidates.proofs.scanned_gains.Tie as tie
 
-sns-vq-reg-adj-gains-requires : tie.Need-sns-vq-reg-adj-gains-requires
-sns-vq-reg-adj-gains-requires c κs = search needs
+abbrev Inv-loop : tie.InvT-loop
+Inv-loop gains₀ k₀ gains k = (k ≤ choices) × (gains ≡ over gainOf k gains₀)
 
-sns-vq-reg-lf-adj-gains-requires : tie.Need-sns-vq-reg-lf-adj-gains-requires
-sns-vq-reg-lf-adj-gains-requires c κs = search needs
+abbrev μ-loop : tie.MeasureT-loop
+μ-loop gains₀ k₀ gains k = choices - k
 
-sns-vq-near-adj-gains-requires : tie.Need-sns-vq-near-adj-gains-requires
-sns-vq-near-adj-gains-requires c κs = search needs
+loop-holds : tie.Need-loop-holds Inv-loop μ-loop
+loop-holds c = (omega (arith, choices-are), over-none _ _)
 
-sns-vq-far-adj-gains-requires : tie.Need-sns-vq-far-adj-gains-requires
-sns-vq-far-adj-gains-requires c κs = search needs
+choice-at-requires : tie.Need-choice-at-requires Inv-loop μ-loop
+choice-at-requires c κs = omega (arith, choices-are)
 
-array-read-t10 : tie.Need-array-read-t10
-array-read-t10 c = search needs
+adj-gain-requires : tie.Need-adj-gain-requires Inv-loop μ-loop
+adj-gain-requires c κs = rw (c .choice-at .ensures) (choice-shape _ (omega (arith, choices-are)), choice-gain _ (omega (arith, choices-are)))
 
-array-read-t13 : tie.Need-array-read-t13
-array-read-t13 c = search needs
+mul-gains : tie.Need-mul-gains Inv-loop μ-loop
+mul-gains c = omega (arith, choices-are)
 
-array-read-t16 : tie.Need-array-read-t16
-array-read-t16 c = search needs
+array-write-gains : tie.Need-array-write-gains Inv-loop μ-loop
+array-write-gains c = omega (arith, choices-are)
 
-array-read-t19 : tie.Need-array-read-t19
-array-read-t19 c = search needs
+add-k : tie.Need-add-k Inv-loop μ-loop
+add-k c = omega (arith, choices-are)
 
-array-read-t22 : tie.Need-array-read-t22
-array-read-t22 c = search needs
+loop-less : tie.Need-loop-less Inv-loop μ-loop
+loop-less c = omega (arith, choices-are)
 
-array-read-t25 : tie.Need-array-read-t25
-array-read-t25 c = search needs
+loop-again : tie.Need-loop-again Inv-loop μ-loop
+loop-again c = (omega (arith, choices-are), over-more _ _ _ _ _ (c .before .before .before .loop .inv .1) (gain-is _ _ _ (c .before .choice-at .ensures) (c .adj-gain .ensures)))
 
-array-read-t28 : tie.Need-array-read-t28
-array-read-t28 c = search needs
-
-array-read-t31 : tie.Need-array-read-t31
-array-read-t31 c = search needs
-
-array-read-t34 : tie.Need-array-read-t34
-array-read-t34 c = search needs
-
-array-read-t37 : tie.Need-array-read-t37
-array-read-t37 c = search needs
-
-array-read-t40 : tie.Need-array-read-t40
-array-read-t40 c = search needs
-
-array-read-t43 : tie.Need-array-read-t43
-array-read-t43 c = search needs
-
-array-read-t46 : tie.Need-array-read-t46
-array-read-t46 c = search needs
-
-array-read-t49 : tie.Need-array-read-t49
-array-read-t49 c = search needs
-
-returns : tie.Need-returns
-unfolding listOf gainOf scanned scannedFrom gainsScanned
-returns c = rw (c .before .before .before .sns-vq-reg-adj-gains .ensures, c .before .before .sns-vq-reg-lf-adj-gains .ensures, c .before .sns-vq-near-adj-gains .ensures, c .sns-vq-far-adj-gains .ensures)
+returns : tie.Need-returns Inv-loop μ-loop
+returns c = full _ choices _ _ _ (c .before .loop .inv .1) (omega (arith, choices-are)) (sym choices-are)
 
 pub scanned-gains-spec : {M : Type 1} → statement M
 scanned-gains-spec =
     tie.close
     (tie.spec
-    sns-vq-reg-adj-gains-requires
-    sns-vq-reg-lf-adj-gains-requires
-    sns-vq-near-adj-gains-requires
-    sns-vq-far-adj-gains-requires
-    array-read-t10
-    array-read-t13
-    array-read-t16
-    array-read-t19
-    array-read-t22
-    array-read-t25
-    array-read-t28
-    array-read-t31
-    array-read-t34
-    array-read-t37
-    array-read-t40
-    array-read-t43
-    array-read-t46
-    array-read-t49
+    Inv-loop
+    μ-loop
+    loop-holds
+    choice-at-requires
+    adj-gain-requires
+    mul-gains
+    array-write-gains
+    add-k
+    loop-less
+    loop-again
     returns)

@@ -7,8 +7,8 @@ use lib.ListN.{getD}
 use lib.Ieee.{Float, nan}
 use Rattle.sns_tables.specs.Gains.{gainRows, gainsOf, gainAt}
 use borrow.Author.Needs.{needs}
-use Rattle.synthesis.proofs.adj_gain.Statement.{statement}
-use Rattle.synthesis.proofs.adj_gain.Tie as tie
+use Rattle.shapes.proofs.adj_gain.Statement.{statement}
+use Rattle.shapes.proofs.adj_gain.Tie as tie
 
 -- the arm of shape k
 below : (shape k gain : ℕ) → shape ≡ k → gain < gainsOf shape → gain < gainsOf k
