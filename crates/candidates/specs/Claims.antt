@@ -9,9 +9,25 @@ use lib.Ieee.{Float, nan, isNan}
 use Rattle.float_laws.specs.Bounded.{Bounded}
 use Rattle.float_laws.specs.Kind.{finite}
 use Rattle.float_laws.specs.Least.{FirstLeast}
+use Rattle.sns_tables.specs.Gains.{gainsOf}
 use Rattle.shape_search.specs.Claims.{Sound}
+use Rattle.candidates.specs.declared.Choice.{Choice}
 use Rattle.candidates.specs.Candidate.{candidateOf}
-use Rattle.candidates.specs.Scan.{choices, distortionAt, winnerOf}
+use Rattle.candidates.specs.Scan.{choices, choiceAt, distortionAt, winnerOf}
+
+-- the choices are 18 in all
+abbrev pub InAll : Type 0
+InAll = choices ≡ 18
+
+-- a shape with one of its gains is among them
+pub record Tried (shape gain : ℕ) : Type 0 where
+  pub choice : ℕ
+  pub below : choice < choices
+  pub is : _≡_ {A = Choice} (choiceAt choice) (record { shape = shape; gain = gain })
+
+-- and that is each shape with each gain that the tables hold, the last of its row too
+abbrev pub AllTried : Type 0
+AllTried = (shape gain : ℕ) → shape < 4 → gain < gainsOf shape → Tried shape gain
 
 -- no place of a candidate is over 1 in size, for any target
 abbrev pub Units : Type 0

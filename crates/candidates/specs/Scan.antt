@@ -9,9 +9,9 @@ use Rattle.sns_tables.specs.Gains.{gainAt}
 use Rattle.candidates.specs.declared.Choice.{Choice}
 use Rattle.candidates.specs.Candidate.{distortionOf}
 
--- 1, 3, 3 and 7 gains
+-- 2, 4, 4 and 8 gains
 unfoldable pub gainsScanned : List ℕ
-gainsScanned = 1 ∷ 3 ∷ 3 ∷ 7 ∷ []
+gainsScanned = 2 ∷ 4 ∷ 4 ∷ 8 ∷ []
 
 -- Scanned in order: shapes upward from `shape`, and of each its gains 0 upward, so many as the list says.
 unfoldable pub scannedFrom : ℕ → List ℕ → List Choice

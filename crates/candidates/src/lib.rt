@@ -15,13 +15,13 @@ ghost use Rattle.candidates.specs.Candidate.{signedOf, candidateOf, dist
 ghost use Rattle.candidates.specs.Scan.{choices, choiceAt, gainOf, distortionAt, winnerOf};
 
 // How many gains of each shape are scanned, and how many choices that makes.
-const REG_GAINS: usize = 1;
+const REG_GAINS: usize = 2;
 
-const REG_LF_GAINS: usize = 3;
+const REG_LF_GAINS: usize = 4;
 
-const NEAR_GAINS: usize = 3;
+const NEAR_GAINS: usize = 4;
 
-const FAR_GAINS: usize = 7;
+const FAR_GAINS: usize = 8;
 
 pub const CHOICES: usize = REG_GAINS + REG_LF_GAINS + NEAR_GAINS + FAR_GAINS;
 

@@ -1,5 +1,6 @@
 -- The demands of specs/Demands.antt, each theorem from the file that shows it. Assumes nothing.
 use Rattle.numbering.proofs.Claims.{claim}
+use Rattle.candidates.proofs.Choices.{choices-are, all-tried}
 use Rattle.synthesis.proofs.Claims.{within-64}
 use Rattle.sns.specs.Demands.{Answered, Kept, Taken, Numbered, Unbeaten}
 use Rattle.sns.proofs.Answers as answers
@@ -56,6 +57,8 @@ numbered =
 pub unbeaten : Unbeaten
 unbeaten =
     record {
+      in-all = choices-are;
+      all-tried = all-tried;
       none-beats = encode.none-beats;
       answered = encode.all-answered;
       decodes-again = encode.decodes-again;

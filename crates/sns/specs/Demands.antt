@@ -1,6 +1,7 @@
 -- The demands on the public calls, each a record of theorems. The proofs are in proofs/Demands.antt; the contracts of crate sns say
 -- that the code does what these definitions say, for every input, with nothing asked of the caller. Definitions only.
 use Rattle.numbering.specs.Claims as numbering
+use Rattle.candidates.specs.Claims as candidates
 use Rattle.synthesis.specs.Claims as synthesis
 use Rattle.sns.specs.Claims as claims
 use Rattle.sns.specs.EncodeClaims as encode
@@ -44,8 +45,11 @@ pub record Numbered : Type 0 where
   pub pack-then-unpack : claims.PackThenUnpack
   pub decoded-within : synthesis.Within64
 
--- 3. No scanned choice beats the answer; decoded again it gives the winner's very pulses; it depends on the sixteen factors alone.
+-- 3. None of the 18 scanned choices, each shape with each gain that the tables hold, beats the answer; decoded again it gives the winner's
+-- very pulses; it depends on the sixteen factors alone.
 pub record Unbeaten : Type 0 where
+  pub in-all : candidates.InAll
+  pub all-tried : candidates.AllTried
   pub none-beats : encode.NoneBeats
   pub answered : encode.AllAnswered
   pub decodes-again : encode.DecodesAgain
