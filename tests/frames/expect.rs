@@ -1,4 +1,5 @@
-//! The recorded frames as input of the programs, and what the Rust answers to them as their expected output.
+//! The recorded frames as input of the programs, and what the Rust answers to them as their expected output: its encoder with the
+//! patches of the orders (../rust/build.sh), its decoder as it is.
 //! `expect FOLDER` writes FOLDER/NAME/stdin and FOLDER/NAME/stdout for quantize, answers_run and frames_run, and the stdout of
 //! decoder_run, which reads nothing.
 mod corners;
@@ -9,7 +10,7 @@ mod reference;
 
 use inputs::Factors;
 use lc3::decoder::side_info::SnsVq;
-use reference::{run_quant, run_quant_place_10};
+use reference::{run_quant, run_quant_patched, run_quant_place_10, Quantized};
 use std::fs::{create_dir_all, write};
 
 struct Frame {
@@ -50,13 +51,13 @@ struct Line {
 }
 
 /// The Rust takes any float. The limit, and what is not finite, are the port's: refused with the first place that is out.
-/// `lc3_place_10` is the Rust with the one rule of document 01 that differs (../rust/build.sh); where the two differ it is taken.
+/// `lc3_place_10` has the one rule of document 01 that differs from the patched Rust (../rust/build.sh); where the two differ it is taken.
 fn line(x: &Factors, show: fn(f32) -> String) -> Line {
     if let Some(place) = x.iter().position(|v| !(v.abs() <= 64.0)) {
         let number = if x[place].is_finite() { 8 } else { 7 };
         return Line { text: format!("refused {number} at {place}"), refused: true, followed: true };
     }
-    let (rust, q) = (run_quant(x), run_quant_place_10(x));
+    let (rust, q) = (run_quant_patched(x), run_quant_place_10(x));
     let (numbers, factors) = (q.numbers.map(|n| n.to_string()).join(" "), q.factors.map(show).join(" "));
     Line { text: format!("{numbers} | {factors}"), refused: false, followed: rust == q }
 }
@@ -96,6 +97,19 @@ fn quantize(folder: &str, name: &str, inputs: &[Factors], show: fn(f32) -> Strin
     save(folder, name, records(inputs), format!("{text}cut\n{} records, {refused} refused, 1 cut\n", lines.len()));
 }
 
+/// What the orders change in the frames' answers, and how many answers are the fields that the codec itself wrote.
+fn told(frames: &[Frame]) {
+    let written = |q: &Quantized, f: &Frame| {
+        let [low, high, shape, gain, sign_a, sign_b, _, a, b] = q.numbers.map(|n| n as usize);
+        f.fields == [low, high, shape, gain, sign_a, sign_b, a, b]
+    };
+    let answers: Vec<(Quantized, Quantized)> = frames.iter().map(|f| (run_quant(&f.targets), run_quant_place_10(&f.targets))).collect();
+    let count = |holds: &dyn Fn(&(Quantized, Quantized), &Frame) -> bool| answers.iter().zip(frames).filter(|(q, f)| holds(q, f)).count();
+    let (changed, last) = (count(&|q, _| q.0 != q.1), count(&|q, _| q.1.has_last_gain()));
+    println!("frames: {} in all, {changed} answered otherwise than by the Rust as it is, {last} with the last gain of a row", frames.len());
+    println!("frames: {} answered with the codec's own fields, {} by the Rust as it is", count(&|q, f| written(&q.1, f)), count(&|q, f| written(&q.0, f)));
+}
+
 /// The decoder on each frame's own fields: the sum of the bits of all band values, modulo 2^32.
 fn decoded(frames: &[Frame]) -> (Vec<u8>, String) {
     let (mut stdin, mut sum) = (Vec::<u8>::new(), 0u32);
@@ -127,6 +141,7 @@ fn main() {
     let text = include_str!("frames.txt");
     let frames: Vec<Frame> = text.lines().map(frame).collect();
 
+    told(&frames);
     let targets = frames.iter().map(|f| f.targets);
     quantize(&folder, "quantize", &targets.chain(edges()).collect::<Vec<_>>(), decimal);
 

@@ -14,6 +14,7 @@ fi
 tests/rust/build.sh
 bench/native.sh "$crate" "target/rust/lib$crate.a"
 flags='--edition 2021 -C opt-level=3 -L target/rust'
+copies='--extern lc3 --extern lc3_patched --extern lc3_place_10 --extern lc3_later'
 # shellcheck disable=SC2086
 rustc $flags --crate-type rlib --crate-name lc3_sns --out-dir target/rust bindings/rust/src/lib.rs
 if [ -n "${BEFORE:-}" ]; then
@@ -23,6 +24,6 @@ fi
 for driver in "$@"; do
     program=target/rust/$(echo "${driver%.rs}" | tr / -)
     # shellcheck disable=SC2086
-    rustc $flags --extern lc3 --extern lc3_place_10 --extern lc3_sns -l "static=$crate" -o "$program" "$driver"
+    rustc $flags $copies --extern lc3_sns -l "static=$crate" -o "$program" "$driver"
     "$program"
 done

@@ -1,17 +1,22 @@
 #!/bin/sh
-# Builds the Rust, lc3-codec 0.2.0, as target/rust/liblc3.rlib, for the comparison and for timing. No line of it is kept here:
-# its files are copied from LC3_SRC (a path seen from the repository's root), and the only edit is the word `pub` before the
-# private functions and structs that must be reached. What it takes from other crates stands in stand_ins/.
-# Beside it liblc3_place_10.rlib: a second copy, in which set B's pulse starts at place 10, as document 01 has it, and not at
-# place 0. It answers where the Rust is not followed (docs/DIFFERENCES.md).
+# Builds the Rust, lc3-codec 0.2.0, in target/rust, for the comparison and for timing:
+#   liblc3.rlib           as it is
+#   liblc3_patched.rlib   with the patches of the orders, patches/order_*.patch: what the encoder is compared with
+#   liblc3_place_10.rlib  with patches/place_10.patch besides: set B's pulse starts where document 01 has it (docs/DIFFERENCES.md)
+#   liblc3_later.rlib     with the orders' and patches/later_of_a_tie.patch: it shows which inputs have two best candidates
+# No file of it is kept here: they are copied from LC3_SRC (a path seen from the repository's root). In every copy the word `pub`
+# stands before the private functions and structs that must be reached. What it takes from other crates stands in stand_ins/.
 # Everything is compiled with the same flags: -C opt-level=3 and no target-cpu.
 set -eu
 cd "$(dirname "$0")/../.."
 src=${LC3_SRC:-../shared/docs/src}
 out=target/rust
+patches=tests/rust/patches
 reached='run_quant|sns_quant_stage1|add_unit_pulse|mvpq_enum|apply_scale_factor_interpolation|reduce_scale_factors_for_narrow_band|mpvq_deenum'
 
-command -v rustc >/dev/null || { echo "tests/rust: rustc is missing (Debian package rustc)" >&2; exit 1; }
+for tool in rustc patch; do
+    command -v $tool >/dev/null || { echo "tests/rust: $tool is missing (Debian package $tool)" >&2; exit 1; }
+done
 [ -f "$src/src/encoder/spectral_noise_shaping.rs" ] || {
     echo "tests/rust: no Rust source at $src: unpack lc3-codec 0.2.0 and set LC3_SRC to the folder that holds its src/" >&2
     exit 1
@@ -25,19 +30,30 @@ for f in common/complex common/config tables/band_index_tables tables/spec_noise
 done
 cp tests/rust/lc3.rs "$out/src/lib.rs"
 
+# patched FROM TO PATCH..: a copy with the patches in; one that does not fit fails it
+patched() {
+    cp -r "$out/$1" "$out/$2"
+    to=$2
+    shift 2
+    for p in "$@"; do
+        patch -s --fuzz=0 -p1 -d "$out/$to" <"$p" || { echo "tests/rust: $p does not fit the Rust source" >&2; exit 1; }
+    done
+}
+patched src patched $patches/order_*.patch
+patched patched place_10 $patches/place_10.patch
+patched patched later $patches/later_of_a_tie.patch
+
 flags="--edition 2021 -C opt-level=3 --cap-lints allow --crate-type rlib --out-dir $out -L $out"
 for name in itertools num_traits fast_math; do
     # shellcheck disable=SC2086
     rustc $flags --crate-name $name tests/rust/stand_ins/$name.rs
 done
-cp -r "$out/src" "$out/place_10"
-stage2=$out/place_10/encoder/spectral_noise_shaping.rs
-sed -i '/let mut max_abs_x = 0.0;/{n;s/let mut n_best = 0;/let mut n_best = 10;/}' "$stage2"
-[ "$(grep -c 'let mut n_best = 10;' "$stage2")" = 1 ] || { echo "tests/rust: the start of set B's pulse was not found" >&2; exit 1; }
-
 externs='--extern itertools --extern num_traits --extern fast_math'
 # shellcheck disable=SC2086
-rustc $flags $externs --crate-name lc3 "$out/src/lib.rs"
-# shellcheck disable=SC2086
-rustc $flags $externs --crate-name lc3_place_10 "$out/place_10/lib.rs"
-echo "the Rust: $out/liblc3.rlib"
+{
+    rustc $flags $externs --crate-name lc3 "$out/src/lib.rs"
+    for copy in patched place_10 later; do
+        rustc $flags $externs --crate-name lc3_$copy "$out/$copy/lib.rs"
+    done
+}
+echo "the Rust: $out/liblc3.rlib, and liblc3_patched.rlib with the patches of the orders"

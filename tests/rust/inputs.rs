@@ -3,9 +3,12 @@
 #![allow(dead_code)]
 use lc3::decoder::side_info::SnsVq;
 use lc3::encoder::spectral_noise_shaping::SpectralNoiseShaping;
-use lc3::tables::spec_noise_shape_quant_tables::{D, HFCB, LFCB, SNS_VQ_FAR_ADJ_GAINS};
+use lc3::tables::spec_noise_shape_quant_tables::*;
 
 pub type Factors = [f32; 16];
+
+/// How many gains the tables hold for each shape.
+pub const GAINS: [usize; 4] = [SNS_VQ_REG_ADJ_GAINS.len(), SNS_VQ_REG_LF_ADJ_GAINS.len(), SNS_VQ_NEAR_ADJ_GAINS.len(), SNS_VQ_FAR_ADJ_GAINS.len()];
 
 /// How many of so many inputs a run takes: all, or a tenth where COMPARE=short.
 pub fn share(of: usize) -> usize {
@@ -82,12 +85,15 @@ pub fn fields() -> impl Iterator<Item = SnsVq> {
             idx_b: s.below(6) as usize,
             submode_lsb: (shape % 2) as u8,
             submode_msb: (shape / 2) as u8,
-            g_ind: s.below([2, 4, 4, 8][shape]) as usize,
+            g_ind: s.below(GAINS[shape] as u64) as usize,
         }
     })
 }
 
-/// Single inputs that random ones do not meet, as f32 bits.
+/// Shape 1 with gain 3 and shape 3 with gain 7, which is scanned later.
+pub const TIE: &str = "two candidates at the least distortion";
+
+/// Single inputs that random ones seldom or never meet, as f32 bits.
 pub const CORNERS: &[(&str, [u32; 16])] = &[
     ("two code rows at the least distance", [
         0xc277b95d, 0x41932fc2, 0x422d47fb, 0xc242affc, 0x42121867, 0xc1127670, 0xc1a03040, 0x421897ea,
@@ -97,9 +103,9 @@ pub const CORNERS: &[(&str, [u32; 16])] = &[
         0x00000000, 0x00000000, 0x00000000, 0x00000000, 0x00000000, 0x00000000, 0x00000000, 0x00000000,
         0xc1100000, 0x42100000, 0xc2380000, 0x42680000, 0xc0c00000, 0xc2000000, 0x41a80000, 0xc1700000,
     ]),
-    ("two candidates at the least distortion", [
-        0x427fffff, 0xc2800000, 0xc2800000, 0x427ffffe, 0xc2800000, 0xc2800000, 0xc27fffff, 0xc27fffff,
-        0x42800000, 0x42800000, 0x42800000, 0x427fffff, 0xc27ffffe, 0x42800000, 0x427fffff, 0x42800000,
+    (TIE, [
+        0xc2050f7a, 0x41d50515, 0xc01561b0, 0x4155561a, 0xc1ad864c, 0x40faca72, 0x41853996, 0x3ecff8e0,
+        0xc100e165, 0xc1166fc1, 0xc06fda38, 0x418e588c, 0x41f1b929, 0x41100a28, 0x4132eb4a, 0x40912188,
     ]),
     ("a carried pair below zero", [
         0x4015e58d, 0xc0ddffa6, 0x4103b544, 0xc1410367, 0x411e3fad, 0xc1149d0a, 0x410450aa, 0x3fa084c1,

@@ -1,13 +1,15 @@
-//! The port's encoder beside the Rust's `run_quant`, every field and the sixteen factors; and its interpolation to 64 bands.
+//! The port's encoder beside `run_quant`, every field and the sixteen factors: the Rust with the patches of the orders, then the
+//! Rust as it is; the first of two best candidates; and interpolation to 64 bands.
 mod calls;
 mod inputs;
 mod reference;
 mod report;
 
 use calls::{bands_64, quant};
-use inputs::Factors;
+use inputs::{Factors, CORNERS, TIE};
 use lc3::encoder::spectral_noise_shaping::SpectralNoiseShaping;
 use lc3::tables::spec_noise_shape_quant_tables::D;
+use reference::{run_quant_later, run_quant_patched};
 use report::Kind;
 
 /// The target is zero from place 10 on: there the Rust leaves set B empty, and is not followed.
@@ -17,11 +19,29 @@ fn no_high_target(x: &Factors) -> bool {
     (10..16).all(|n| r1.iter().zip(&D).fold(0.0, |t, (r, row)| t + r * row[n]) == 0.0)
 }
 
+/// Two candidates are the best: the copy that takes the later one answers otherwise, and the port takes the first.
+fn first_of_two() -> usize {
+    let corner = CORNERS.iter().find(|(name, _)| *name == TIE).expect("the corner");
+    let x = corner.1.map(f32::from_bits);
+    let (first, later) = (run_quant_patched(&x), run_quant_later(&x));
+    let right = first.numbers != later.numbers && quant::ours(&x) == quant::patched(&x);
+    let [first, later] = [first, later].map(|q| format!("shape {} with gain {}", q.numbers[2], q.numbers[3]));
+    println!("{TIE}: {first} and {later}; the port takes the {}\n", if right { "first" } else { "WRONG ONE, OR THERE IS NO TIE" });
+    !right as usize
+}
+
 fn main() {
     let high = Kind { name: "with no target from 10 on", holds: no_high_target, instead: Some(quant::place_10) };
+    let last = Kind {
+        name: "with a last gain, or no target from 10 on",
+        holds: |x| run_quant_patched(x).has_last_gain() || no_high_target(x),
+        instead: Some(quant::place_10),
+    };
     let wide = Kind { name: "with a step over 64", holds: |x| x.windows(2).any(|w| (w[1] - w[0]).abs() > 64.0), instead: None };
     report::end(
-        report::compare("encoder", quant::ours, quant::rust, &high)
+        report::compare("encoder, the Rust with the orders' patches", quant::ours, quant::patched, &high)
+            + report::compare("encoder, the Rust as it is", quant::ours, quant::rust, &last)
+            + first_of_two()
             + report::compare("interpolation", bands_64::ours, bands_64::rust, &wide),
     )
 }

@@ -1,6 +1,6 @@
 //! The Rust's encoder, numbering and decoder behind plain signatures.
 #![allow(dead_code)]
-use crate::inputs::Factors;
+use crate::inputs::{Factors, GAINS};
 use lc3::common::config::{FrameDuration, Lc3Config, SamplingFrequency};
 use lc3::decoder::side_info::SnsVq;
 use lc3::decoder::spectral_noise_shaping::{decode, mpvq_deenum};
@@ -36,9 +36,19 @@ macro_rules! encoder {
     };
 }
 
-// the Rust, and the copy in which set B's pulse starts at place 10 (build.sh)
+// the Rust as it is; with the patches of the orders; with these, set B's pulse starting at place 10; with these, the later of a tie (build.sh)
 encoder!(run_quant, lc3);
+encoder!(run_quant_patched, lc3_patched);
 encoder!(run_quant_place_10, lc3_place_10);
+encoder!(run_quant_later, lc3_later);
+
+impl Quantized {
+    /// The answer's gain is the last of its row, which the Rust as it is never tries.
+    pub fn has_last_gain(&self) -> bool {
+        let [_, _, shape, gain, ..] = self.numbers.map(|n| n as usize);
+        gain + 1 == GAINS[shape]
+    }
+}
 
 /// Dimension, pulse count and size of the four pairs.
 pub const PAIRS: [(usize, usize, usize); 4] = [(10, 10, 2390004), (6, 1, 6), (16, 8, 15158272), (16, 6, 774912)];

@@ -14,14 +14,14 @@ pub struct Kind {
 pub fn compare(what: &str, ours: Call, rust: Call, kind: &Kind) -> usize {
     let corners = CORNERS.iter().map(|(name, bits)| (*name, vec![bits.map(f32::from_bits)]));
     let drawn = ALL.iter().map(|d| (d.name, d.inputs(share(60_000)).collect()));
-    println!("{what:<44} {:>8} {:>26} {:>8}", "inputs", kind.name, "differ");
+    println!("{what:<44} {:>8} {:>42} {:>8}", "inputs", kind.name, "differ");
     let (mut all, mut some, mut excused, mut wrong) = (0, 0, 0, 0);
     for (name, xs) in drawn.chain(corners) {
         let kinds = xs.iter().filter(|x| (kind.holds)(x)).count();
         let differ: Vec<&Factors> = xs.iter().filter(|x| ours(x) != rust(x)).collect();
         let right = |x: &Factors| (kind.holds)(x) && kind.instead.is_some_and(|instead| ours(x) == instead(x));
         let bad: Vec<&&Factors> = differ.iter().filter(|x| !right(x)).collect();
-        println!("{name:<44} {:>8} {kinds:>26} {:>8}", xs.len(), differ.len());
+        println!("{name:<44} {:>8} {kinds:>42} {:>8}", xs.len(), differ.len());
         if let Some(x) = bad.first() {
             println!("  first: {}", x.map(|v| format!("{:08x}", v.to_bits())).join(" "));
         }
