@@ -7,6 +7,7 @@ mod timing;
 
 use inputs::Source;
 use reference::{pack, unpack_into, PAIRS};
+use timing::side;
 
 struct Vector {
     dimension: usize,
@@ -65,12 +66,12 @@ fn rust_pack(v: &Vector) -> (usize, i32) {
 }
 
 fn main() {
-    let unpacks: &[timing::Side<Vector, [i32; 16]>] = &[
+    let unpacks = [
+        side("ours", our_unpack),
         #[cfg(before)]
-        ("before", before_unpack),
-        ("ours", our_unpack),
-        ("the Rust", rust_unpack),
+        side("before", before_unpack),
+        side("the Rust", rust_unpack),
     ];
-    timing::main(&lists("unpack"), unpacks);
-    timing::main(&lists("pack"), &[("ours", our_pack as fn(&Vector) -> (usize, i32)), ("the Rust", rust_pack)]);
+    timing::main(&lists("unpack"), &unpacks);
+    timing::main(&lists("pack"), &[side("ours", our_pack), side("the Rust", rust_pack)]);
 }

@@ -1,7 +1,7 @@
 #!/bin/sh
 # bench/run.sh CRATE DRIVER.rs LIST..: times the port beside the Rust (see bench/timing.rs), and counts the instructions of a
 # call on each named list of inputs where valgrind is at hand. `bench/run.sh stage1_bench bench/stage1.rs 'stage 1, scale 64'`
-# is stage 1. With BEFORE=COMMIT the unpacking of that commit stands beside both.
+# is stage 1. With BEFORE=COMMIT encode and unpack of that commit stand beside both.
 set -eu
 cd "$(dirname "$0")/.."
 crate=$1 driver=$2
@@ -18,7 +18,7 @@ instructions() {
 for list in "$@"; do
     none=$(instructions "$list" none)
     printf 'instructions a call, %s:' "$list"
-    for side in before ours 'the Rust'; do
+    for side in before ours 'the patched Rust' 'the Rust'; do
         each=$((($(instructions "$list" "$side") - none) / 2000))
         [ $each = 0 ] || printf ' %s %s;' "$side" $each
     done

@@ -5,6 +5,7 @@ mod timing;
 
 use inputs::Factors;
 use lc3::encoder::spectral_noise_shaping::SpectralNoiseShaping;
+use timing::side;
 
 extern "C" {
     fn bench_stage1(scf: &Factors, st1: &mut Factors, r1: &mut Factors) -> u32;
@@ -25,5 +26,5 @@ fn rust(x: &Factors) -> Answer {
 }
 
 fn main() {
-    timing::main(&[64, 4, 1].map(|scale| (format!("stage 1, scale {scale}"), inputs::timed(scale))), &[("ours", ours as fn(&Factors) -> Answer), ("the Rust", rust)]);
+    timing::main(&[64, 4, 1].map(|scale| (format!("stage 1, scale {scale}"), inputs::timed(scale))), &[side("ours", ours), side("the Rust", rust)]);
 }

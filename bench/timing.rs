@@ -30,34 +30,49 @@ fn round<T, A>(call: fn(&T) -> A, inputs: &[T]) -> f64 {
     (processor_time() - start) / inputs.len() as f64
 }
 
-/// What is timed: its name, and the function.
-pub type Side<T, A> = (&'static str, fn(&T) -> A);
+/// What is timed. The first side of a list is the port; the others are measured by it.
+pub struct Side<T, A> {
+    pub name: &'static str,
+    pub call: fn(&T) -> A,
+    /// its answers are the first side's: compared before anything is timed
+    pub alike: bool,
+}
+
+/// A side that answers as the first one does.
+pub fn side<T, A>(name: &'static str, call: fn(&T) -> A) -> Side<T, A> {
+    Side { name, call, alike: true }
+}
+
+/// A side that follows another rule.
+pub fn other<T, A>(name: &'static str, call: fn(&T) -> A) -> Side<T, A> {
+    Side { name, call, alike: false }
+}
 
 /// The sorted times of each side, in nanoseconds a call; the sides take turns.
 fn times<T, A>(inputs: &[T], sides: &[Side<T, A>]) -> Vec<Vec<f64>> {
     let mut times = vec![Vec::new(); sides.len()];
     for _ in 0..ROUNDS {
-        times.iter_mut().zip(sides).for_each(|(t, (_, call))| t.push(round(*call, inputs)));
+        times.iter_mut().zip(sides).for_each(|(t, side)| t.push(round(side.call, inputs)));
     }
     times.iter_mut().for_each(|t| t.sort_by(f64::total_cmp));
     times
 }
 
-/// Prints the best and the median time of each side, and its ratio to the last side, after every answer was compared with that one's.
+/// Prints the best and the median time of each side, and what part of it the first side takes, after the answers were compared.
 fn compare<T, A: PartialEq>(what: &str, inputs: &[T], sides: &[Side<T, A>]) {
-    let (last, others) = sides.split_last().expect("a side");
-    for (name, call) in others {
-        let differ = inputs.iter().filter(|x| call(x) != last.1(x)).count();
-        assert_eq!(differ, 0, "{what}, {name}: {differ} of {} answers differ", inputs.len());
+    let ours = &sides[0];
+    for side in sides.iter().filter(|s| s.alike) {
+        let differ = inputs.iter().filter(|x| (ours.call)(x) != (side.call)(x)).count();
+        assert_eq!(differ, 0, "{what}, {}: {differ} of {} answers differ", side.name, inputs.len());
     }
     let times = times(inputs, sides);
-    let (best, median) = (|t: &Vec<f64>| t[0], |t: &Vec<f64>| t[ROUNDS / 2]);
-    let measure = &times[others.len()];
-    print!("{what}:");
-    for ((name, _), t) in others.iter().zip(&times) {
-        print!(" {name} {:.0} ns (median {:.0}), ratio {:.3} (of medians {:.3});", best(t), median(t), best(t) / best(measure), median(t) / median(measure));
+    let (best, median) = (|n: usize| times[n][0], |n: usize| times[n][ROUNDS / 2]);
+    print!("{what}, {} inputs: {} {:.0} ns (median {:.0})", inputs.len(), ours.name, best(0), median(0));
+    for (n, side) in sides.iter().enumerate().skip(1) {
+        let rule = if side.alike { "" } else { ", another rule" };
+        print!("; {}{rule} {:.0} ns (median {:.0}), ratio {:.3} (of medians {:.3})", side.name, best(n), median(n), best(0) / best(n), median(0) / median(n));
     }
-    println!(" {} {:.0} ns (median {:.0}); {} answers equal", last.0, best(measure), median(measure), inputs.len());
+    println!();
 }
 
 /// What a bench does with its lists of inputs. `count LIST SIDE`: 2000 calls of that side on that list, for an instruction
@@ -69,8 +84,8 @@ pub fn main<T, A: PartialEq>(lists: &[(String, Vec<T>)], sides: &[Side<T, A>]) {
         return;
     };
     for (_, inputs) in lists.iter().filter(|l| l.0 == *list) {
-        for (_, call) in sides.iter().filter(|s| s.0 == side) {
-            round(*call, &inputs[..2000]);
+        for s in sides.iter().filter(|s| s.name == side) {
+            round(s.call, &inputs[..2000]);
         }
     }
 }

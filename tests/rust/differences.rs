@@ -9,13 +9,21 @@ use lc3::decoder::side_info::SnsVq;
 use lc3::encoder::spectral_noise_shaping::SpectralNoiseShaping;
 use lc3::tables::spec_noise_shape_quant_tables::{HFCB, LFCB};
 use lc3_sns::{raw, Fields};
-use reference::{bands, pack, run_quant, run_quant_place_10, unpack_into};
+use reference::{bands, pack, run_quant, run_quant_patched, run_quant_place_10, unpack_into};
 use std::panic::catch_unwind;
 
 /// Prints the row, and answers whether it is as the page says.
 fn row(what: &str, as_listed: bool) -> bool {
     println!("{what}: {}", if as_listed { "as listed" } else { "NOT AS LISTED" });
     as_listed
+}
+
+/// 3.0 at place 8 and zeros elsewhere: shape 0 wins on both sides, and the Rust has one of its two gains to give.
+fn last_gain() -> bool {
+    let x = std::array::from_fn(|n| if n == 8 { 3.0 } else { 0.0 });
+    let (rust, right) = (run_quant(&x), run_quant_patched(&x));
+    let what = format!("3.0 at place 8: shape and gain: the Rust {:?}, here {:?}", &rust.numbers[2..4], &right.numbers[2..4]);
+    row(&what, rust.numbers[2..4] == [0, 0] && right.numbers[2..4] == [0, 1] && calls::quant::ours(&x) == calls::quant::patched(&x))
 }
 
 fn no_high_target() -> bool {
@@ -70,6 +78,6 @@ fn zero_residual() -> bool {
 }
 
 fn main() {
-    let listed = no_high_target() & vectors() & sixty_bands() & bad_input() & zero_residual();
+    let listed = last_gain() & no_high_target() & vectors() & sixty_bands() & bad_input() & zero_residual();
     std::process::exit(!listed as i32)
 }
