@@ -9,7 +9,7 @@ use Rattle.sns_tables.specs.Gains.{gainAt}
 use Rattle.candidates.specs.declared.Choice.{Choice}
 use Rattle.candidates.specs.Candidate.{distortionOf}
 
--- 2, 4, 4 and 8 gains
+-- 2, 4, 4 and 8 gains (order 3)
 unfoldable pub gainsScanned : List ℕ
 gainsScanned = 2 ∷ 4 ∷ 4 ∷ 8 ∷ []
 
