@@ -1,4 +1,5 @@
 //! Functions timed on the same inputs: processor time, rounds interleaved, the best and the median of the rounds.
+#![allow(dead_code)]
 use std::hint::black_box;
 
 const ROUNDS: usize = 21;
