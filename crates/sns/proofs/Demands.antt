@@ -60,6 +60,7 @@ unbeaten =
       in-all = choices-are;
       all-tried = all-tried;
       none-beats = encode.none-beats;
+      no-gain-beats = encode.no-gain-beats;
       answered = encode.all-answered;
       decodes-again = encode.decodes-again;
       factors-alone = encode.factors-alone;

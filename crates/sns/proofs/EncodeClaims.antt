@@ -22,6 +22,7 @@ use Rattle.candidates.specs.Scan.{winnerOf}
 use Rattle.candidates.proofs.Choices.{choice-gain, winner-under}
 use Rattle.stage2.specs.Numbers.{partA, partB, indexB, signB, numbersOf, bothSets, unpackedOf}
 use Rattle.stage2.specs.Stage2.{candidatesOf, choiceOf, selectedOf, signedFor, answerOf, stage2Of}
+use Rattle.stage2.proofs.Claims.{none-below}
 use Rattle.stage2.proofs.Winner.{set-a, set-b, unpacks}
 use Rattle.encoder.specs.Quantized.{quantizedOf}
 use Rattle.encoder.proofs.Claims.{all-nearest}
@@ -31,7 +32,7 @@ use Rattle.sns.specs.declared.Answer.{Answer}
 use Rattle.sns.specs.declared.Answer.the-variants.{Done, No}
 use Rattle.sns.specs.Answers.{kept}
 use Rattle.sns.specs.Encode.{encodeQuestions, encodeAnswer, encodedAs, fieldsOf}
-use Rattle.sns.specs.EncodeClaims.{EncodePinned, EncodeKeeps, FactorsAlone, EncodeTaken, EncodeTakes, AllAnswered, NoneBeats, DecodesAgain}
+use Rattle.sns.specs.EncodeClaims.{EncodePinned, EncodeKeeps, FactorsAlone, EncodeTaken, EncodeTakes, AllAnswered, NoneBeats, NoGainBeats, DecodesAgain}
 use Rattle.sns.proofs.Taken.{decode-takes}
 use Rattle.sns.proofs.Answers.{done}
 use Rattle.sns.proofs.Elements.{factors-done, done-factors, done-taken}
@@ -91,6 +92,10 @@ taken-bounded factors len e n h =
 
 pub none-beats : NoneBeats
 none-beats factors len e = all-nearest factors (taken-bounded factors len e)
+
+pub no-gain-beats : NoGainBeats
+unfolding quantizedOf stage2Of answerOf selectedOf
+no-gain-beats factors len e shape gain s g = none-below (targetOf (residual factors)) (none-beats factors len e .choice) shape gain s g
 
 -- ---- decoded again
 

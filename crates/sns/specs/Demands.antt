@@ -51,6 +51,7 @@ pub record Unbeaten : Type 0 where
   pub in-all : candidates.InAll
   pub all-tried : candidates.AllTried
   pub none-beats : encode.NoneBeats
+  pub no-gain-beats : encode.NoGainBeats
   pub answered : encode.AllAnswered
   pub decodes-again : encode.DecodesAgain
   pub factors-alone : encode.FactorsAlone

@@ -3,16 +3,18 @@
 use mathlib.Core.Path.{_≡_}
 use mathlib.Core.Bool.{not}
 use mathlib.Core.List.{List}
-use Prim.Native.Nat.{ℕ}
+use Prim.Native.Nat.{ℕ, _<_}
 use lib.Dec.{T}
 use lib.ListN.{length}
-use lib.Ieee.{Float}
+use lib.Ieee.{Float, lt}
 use Rattle.float_laws.specs.Kind.{finite}
 use Rattle.list_laws.specs.Every.{both, every}
 use Rattle.factor.specs.Check.{factorLimit, beyond}
+use Rattle.sns_tables.specs.Gains.{gainsOf}
 use Rattle.stage1.specs.Stage1.{lowRow, highRow, residual}
 use Rattle.stage2_target.specs.Target.{targetOf}
 use Rattle.stage2.specs.Stage2.{choiceOf, signedFor}
+use Rattle.stage2.specs.Claims.{distortionWith}
 use Rattle.encoder.specs.Quantized.{quantizedOf}
 use Rattle.encoder.specs.Claims.{Nearest}
 use Rattle.sns.specs.declared.Answer.the-variants.{Done, No}
@@ -56,6 +58,13 @@ AllAnswered = (factors : List Float) → Answered factors
 -- and for factors that are taken these rows are the first with the least computed distance, and this choice is the first of those scanned with the least computed distortion
 abbrev pub NoneBeats : Type 0
 NoneBeats = (factors : List Float) (len : ℕ) → encodeAnswer factors len ≡ Done → Nearest factors
+
+-- so no shape with any gain that the tables hold, the last of its row too, has a smaller computed distortion than the answer's shape with the answer's gain
+abbrev pub NoGainBeats : Type 0
+NoGainBeats =
+    (factors : List Float) (len : ℕ) → encodeAnswer factors len ≡ Done → (shape gain : ℕ) → shape < 4 → gain < gainsOf shape
+    → let t = targetOf (residual factors) in let f = fieldsOf (quantizedOf factors) in
+    T (not (lt (distortionWith t shape gain) (distortionWith t (f .shape) (f .gain))))
 
 -- decoded again: the decoder takes the fields, and their pulses are the winner's very pulses
 abbrev pub DecodesAgain : Type 0

@@ -1,15 +1,18 @@
 -- What is shown of stage 2. Definitions only; the proofs are in proofs/Claims.
 use mathlib.Core.Path.{_≡_}
-use mathlib.Core.List.{List}
+use mathlib.Core.Bool.{not}
+use mathlib.Core.List.{List, []}
 use Prim.Native.Nat.{ℕ, _≤_, _<_}
 use lib.Dec.{T}
 use lib.ListN.{getD}
-use lib.Ieee.{Float, nan}
+use lib.Ieee.{Float, nan, lt}
 use Rattle.float_laws.specs.Bounded.{Bounded}
 use Rattle.float_laws.specs.Kind.{finite}
 use Rattle.float_laws.specs.Least.{FirstLeast}
+use Rattle.sns_tables.specs.Gains.{gainsOf, gainAt}
 use Rattle.stage2_target.specs.Target.{targetOf, absolutesOf}
 use Rattle.shape_search.specs.Claims.{Finite}
+use Rattle.candidates.specs.Candidate.{distortionOf}
 use Rattle.candidates.specs.Scan.{choices, choiceAt, distortionAt}
 use Rattle.candidates.specs.Claims.{Comparable}
 use Rattle.stage2.specs.Numbers.{unpackedOf}
@@ -27,6 +30,16 @@ ChoiceFirst = (t : List Float) → ((n : ℕ) → n < 16 → T (finite (getD t n
 -- and any choice that is first so is the one chosen
 abbrev pub ChoiceOnly : Type 0
 ChoiceOnly = (t : List Float) → ((n : ℕ) → n < 16 → T (finite (getD t n nan))) → (i : ℕ) → FirstLeast (distortionAt t (candidatesOf t)) choices i → choiceAt i ≡ choiceOf t
+
+-- the computed distortion of a shape's candidate under one of the shape's gains
+abbrev pub distortionWith : List Float → ℕ → ℕ → Float
+distortionWith t shape gain = distortionOf t (getD (candidatesOf t) shape []) (gainAt shape gain)
+
+-- no shape with any gain that the tables hold has a smaller one than the chosen shape with the chosen gain
+abbrev pub NoneBelow : Type 0
+NoneBelow =
+    (t : List Float) → FirstChoice t → (shape gain : ℕ) → shape < 4 → gain < gainsOf shape
+    → T (not (lt (distortionWith t shape gain) (distortionWith t (choiceOf t .shape) (choiceOf t .gain))))
 
 -- the signs and indices, unpacked, give the winner's very pulses
 abbrev pub Unpacks : Type 0
