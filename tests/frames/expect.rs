@@ -10,7 +10,7 @@ mod reference;
 
 use inputs::Factors;
 use lc3::decoder::side_info::SnsVq;
-use reference::{run_quant, run_quant_patched, run_quant_place_10, Quantized};
+use reference::{run_quant, run_quant_order_3, run_quant_patched, run_quant_place_10, Quantized};
 use std::fs::{create_dir_all, write};
 
 struct Frame {
@@ -97,17 +97,20 @@ fn quantize(folder: &str, name: &str, inputs: &[Factors], show: fn(f32) -> Strin
     save(folder, name, records(inputs), format!("{text}cut\n{} records, {refused} refused, 1 cut\n", lines.len()));
 }
 
-/// What the orders change in the frames' answers, and how many answers are the fields that the codec itself wrote.
+type Rule = fn(&Factors) -> Quantized;
+
+/// What each order changes in the frames' answers, and how many answers are the fields that the codec itself wrote.
 fn told(frames: &[Frame]) {
     let written = |q: &Quantized, f: &Frame| {
         let [low, high, shape, gain, sign_a, sign_b, _, a, b] = q.numbers.map(|n| n as usize);
         f.fields == [low, high, shape, gain, sign_a, sign_b, a, b]
     };
-    let answers: Vec<(Quantized, Quantized)> = frames.iter().map(|f| (run_quant(&f.targets), run_quant_place_10(&f.targets))).collect();
-    let count = |holds: &dyn Fn(&(Quantized, Quantized), &Frame) -> bool| answers.iter().zip(frames).filter(|(q, f)| holds(q, f)).count();
-    let (changed, last) = (count(&|q, _| q.0 != q.1), count(&|q, _| q.1.has_last_gain()));
-    println!("frames: {} in all, {changed} answered otherwise than by the Rust as it is, {last} with the last gain of a row", frames.len());
-    println!("frames: {} answered with the codec's own fields, {} by the Rust as it is", count(&|q, f| written(&q.1, f)), count(&|q, f| written(&q.0, f)));
+    let own = |rule: Rule| frames.iter().filter(|f| written(&rule(&f.targets), f)).count();
+    let changed = |before: Rule, after: Rule| frames.iter().filter(|f| before(&f.targets) != after(&f.targets)).count();
+    let (rust, order_3, order_5): (Rule, Rule, Rule) = (run_quant, run_quant_order_3, run_quant_place_10);
+    println!("{} frames: {} answers of the Rust as it is are the codec's own fields", frames.len(), own(rust));
+    println!("order 3: {} answers change, {} are the codec's own fields", changed(rust, order_3), own(order_3));
+    println!("order 5: {} answers change, {} are the codec's own fields", changed(order_3, order_5), own(order_5));
 }
 
 /// The decoder on each frame's own fields: the sum of the bits of all band values, modulo 2^32.

@@ -1,7 +1,8 @@
 #!/bin/sh
 # Builds the Rust, lc3-codec 0.2.0, in target/rust, for the comparison and for timing:
 #   liblc3.rlib           as it is
-#   liblc3_patched.rlib   with the patches of the orders, patches/order_*.patch: what the encoder is compared with
+#   liblc3_order_3.rlib   with the patch of order 3: it shows what each order changes
+#   liblc3_patched.rlib   with the patches of all orders, 3 and 5: what the encoder is compared with
 #   liblc3_place_10.rlib  with patches/place_10.patch besides: set B's pulse starts where document 01 has it (docs/DIFFERENCES.md)
 #   liblc3_later.rlib     with the orders' and patches/later_of_a_tie.patch: it shows which inputs have two best candidates
 # No file of it is kept here: they are copied from LC3_SRC (a path seen from the repository's root). In every copy the word `pub`
@@ -39,7 +40,8 @@ patched() {
         patch -s --fuzz=0 -p1 -d "$out/$to" <"$p" || { echo "tests/rust: $p does not fit the Rust source" >&2; exit 1; }
     done
 }
-patched src patched $patches/order_*.patch
+patched src order_3 $patches/order_3.patch
+patched order_3 patched $patches/order_5.patch
 patched patched place_10 $patches/place_10.patch
 patched patched later $patches/later_of_a_tie.patch
 
@@ -52,7 +54,7 @@ externs='--extern itertools --extern num_traits --extern fast_math'
 # shellcheck disable=SC2086
 {
     rustc $flags $externs --crate-name lc3 "$out/src/lib.rs"
-    for copy in patched place_10 later; do
+    for copy in order_3 patched place_10 later; do
         rustc $flags $externs --crate-name lc3_$copy "$out/$copy/lib.rs"
     done
 }

@@ -36,7 +36,7 @@ pub mod stage1 {
 /// The encoder: refusal, place, rows, shape, gain, signs, joint index, plain indices; the sixteen factors.
 pub mod quant {
     use super::*;
-    use crate::reference::{run_quant, run_quant_patched, run_quant_place_10, Quantized};
+    use crate::reference::{run_quant, run_quant_order_3, run_quant_patched, run_quant_place_10, Quantized};
 
     pub fn ours(f: &Factors) -> Bits {
         let mut factors = [f32::NAN; 16];
@@ -54,7 +54,12 @@ pub mod quant {
         taken(run_quant(f))
     }
 
-    /// The Rust with the patches of the orders.
+    /// The Rust with the patch of order 3 alone.
+    pub fn order_3(f: &Factors) -> Bits {
+        taken(run_quant_order_3(f))
+    }
+
+    /// The Rust with the patches of all orders.
     pub fn patched(f: &Factors) -> Bits {
         taken(run_quant_patched(f))
     }

@@ -9,7 +9,7 @@ use lc3::decoder::side_info::SnsVq;
 use lc3::encoder::spectral_noise_shaping::SpectralNoiseShaping;
 use lc3::tables::spec_noise_shape_quant_tables::{HFCB, LFCB};
 use lc3_sns::{raw, Fields};
-use reference::{bands, pack, run_quant, run_quant_patched, run_quant_place_10, unpack_into};
+use reference::{bands, pack, run_quant, run_quant_order_3, run_quant_patched, run_quant_place_10, unpack_into, Quantized};
 use std::panic::catch_unwind;
 
 /// Prints the row, and answers whether it is as the page says.
@@ -24,6 +24,19 @@ fn last_gain() -> bool {
     let (rust, right) = (run_quant(&x), run_quant_patched(&x));
     let what = format!("3.0 at place 8: shape and gain: the Rust {:?}, here {:?}", &rust.numbers[2..4], &right.numbers[2..4]);
     row(&what, rust.numbers[2..4] == [0, 0] && right.numbers[2..4] == [0, 1] && calls::quant::ours(&x) == calls::quant::patched(&x))
+}
+
+/// Sixteen zeros: shape 1 with gain 0 on both sides, and the Rust seeks its pulses with another place's pair.
+fn carried_pair() -> bool {
+    let x = [0.0; 16];
+    let (rust, right) = (run_quant(&x), run_quant_patched(&x));
+    let what = format!("sixteen zeros: shape, gain and index A: the Rust {:?}, here {:?}", seen(&rust), seen(&right));
+    let order_5_alone = rust == run_quant_order_3(&x);
+    row(&what, order_5_alone && seen(&rust) == [1, 0, 605842] && seen(&right) == [1, 0, 605778] && calls::quant::ours(&x) == calls::quant::patched(&x))
+}
+
+fn seen(q: &Quantized) -> [i64; 3] {
+    [q.numbers[2], q.numbers[3], q.numbers[7]]
 }
 
 fn no_high_target() -> bool {
@@ -78,6 +91,6 @@ fn zero_residual() -> bool {
 }
 
 fn main() {
-    let listed = last_gain() & no_high_target() & vectors() & sixty_bands() & bad_input() & zero_residual();
+    let listed = last_gain() & carried_pair() & no_high_target() & vectors() & sixty_bands() & bad_input() & zero_residual();
     std::process::exit(!listed as i32)
 }

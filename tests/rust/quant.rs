@@ -1,5 +1,6 @@
-//! The port's encoder beside `run_quant`, every field and the sixteen factors: the Rust with the patches of the orders, then the
-//! Rust as it is; the first of two best candidates; and interpolation to 64 bands.
+//! The port's encoder beside `run_quant` of the Rust with the patches of the orders, every field and the sixteen factors; what each
+//! order changes, from patched copy to patched copy, down to the Rust as it is; the first of two best candidates; and interpolation
+//! to 64 bands.
 mod calls;
 mod inputs;
 mod reference;
@@ -9,7 +10,7 @@ use calls::{bands_64, quant};
 use inputs::{Factors, CORNERS, TIE};
 use lc3::encoder::spectral_noise_shaping::SpectralNoiseShaping;
 use lc3::tables::spec_noise_shape_quant_tables::D;
-use reference::{run_quant_later, run_quant_patched};
+use reference::{run_quant_later, run_quant_order_3, run_quant_patched};
 use report::Kind;
 
 /// The target is zero from place 10 on: there the Rust leaves set B empty, and is not followed.
@@ -32,15 +33,17 @@ fn first_of_two() -> usize {
 
 fn main() {
     let high = Kind { name: "with no target from 10 on", holds: no_high_target, instead: Some(quant::place_10) };
-    let last = Kind {
-        name: "with a last gain, or no target from 10 on",
-        holds: |x| run_quant_patched(x).has_last_gain() || no_high_target(x),
-        instead: Some(quant::place_10),
+    let handed = Kind {
+        name: "with another shape than 3, before or after",
+        holds: |x| !(run_quant_patched(x).has_first_search() && run_quant_order_3(x).has_first_search()),
+        instead: Some(quant::patched),
     };
+    let last = Kind { name: "with a last gain", holds: |x| run_quant_order_3(x).has_last_gain(), instead: Some(quant::order_3) };
     let wide = Kind { name: "with a step over 64", holds: |x| x.windows(2).any(|w| (w[1] - w[0]).abs() > 64.0), instead: None };
     report::end(
         report::compare("encoder, the Rust with the orders' patches", quant::ours, quant::patched, &high)
-            + report::compare("encoder, the Rust as it is", quant::ours, quant::rust, &last)
+            + report::compare("order 5, the Rust with and without", quant::patched, quant::order_3, &handed)
+            + report::compare("order 3, the Rust with and without", quant::order_3, quant::rust, &last)
             + first_of_two()
             + report::compare("interpolation", bands_64::ours, bands_64::rust, &wide),
     )

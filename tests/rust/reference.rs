@@ -36,8 +36,10 @@ macro_rules! encoder {
     };
 }
 
-// the Rust as it is; with the patches of the orders; with these, set B's pulse starting at place 10; with these, the later of a tie (build.sh)
+// the Rust as it is; with the patch of order 3; with those of all orders; with these, set B's pulse starting at place 10; with these, the later
+// of a tie (build.sh)
 encoder!(run_quant, lc3);
+encoder!(run_quant_order_3, lc3_order_3);
 encoder!(run_quant_patched, lc3_patched);
 encoder!(run_quant_place_10, lc3_place_10);
 encoder!(run_quant_later, lc3_later);
@@ -47,6 +49,11 @@ impl Quantized {
     pub fn has_last_gain(&self) -> bool {
         let [_, _, shape, gain, ..] = self.numbers.map(|n| n as usize);
         gain + 1 == GAINS[shape]
+    }
+
+    /// The answer is of shape 3, the first that is searched: no pair was handed on to it.
+    pub fn has_first_search(&self) -> bool {
+        self.numbers[2] == 3
     }
 }
 

@@ -50,9 +50,9 @@ pub record Search : Type 0 where
 abbrev pub start : List ℕ → SearchRecord → Search
 start y r = record { pulses = y; kept = r; handed = r }
 
--- As in the Rust, the pair handed on to the next shape is that of the last place scanned for the last pulse, not of the place chosen.
+-- The record always holds the pair belonging to the pulses placed: the pair handed on to the next shape is that of the place chosen.
 unfoldable pub handedOn : SearchRecord → SearchRecord → SearchRecord
-handedOn scanned chosen = scanned
+handedOn scanned chosen = chosen
 
 -- one pulse over places 0 to last; between pulses of one shape the chosen place's pair is kept
 unfoldable pub onePulse : List Float → ℕ → Search → Search

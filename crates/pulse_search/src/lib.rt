@@ -80,7 +80,7 @@ fn best_place(
 fn hand_on(scanned: SearchRecord, chosen: SearchRecord) -> SearchRecord
     ensures { λ p. ⌜ p ≡ handedOn scanned chosen ⌝ }
 {
-    scanned
+    chosen
 }
 
 // From k pulses up to k_max, over places 0 to last; answers the pair that the next shape starts from.
