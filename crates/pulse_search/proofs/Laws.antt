@@ -13,7 +13,8 @@ use lib.Seq.{getD-set-same}
 use lib.Ieee.{Float}
 use Rattle.float_laws.specs.Scan.{choose}
 use Rattle.pulse_search.specs.declared.SearchRecord.{SearchRecord}
-use Rattle.pulse_search.specs.Pulse.{pairAt, replaces, bestTo, Search, start, handedOn, onePulse, more, totalTo}
+use Rattle.pulse_search.specs.Pulse.{pairAt, replaces, bestTo, Search, start, onePulse, more, totalTo}
+use Rattle.pulse_search.proofs.Sums.{place-le, total-one}
 
 -- ---- the best place, one more place at a time
 pub best-zero : (a : List Float) (y : List ℕ) (r : SearchRecord) → 0 ≡ bestTo a y r 0
@@ -46,49 +47,6 @@ unfolding bestTo
 best-le a y r zero = le-refl 0
 best-le a y r (suc m) = choose-le (replaces (pairAt a y r (suc m)) (pairAt a y r (bestTo a y r m))) m (bestTo a y r m) (best-le a y r m)
 
--- ---- totals
-pub total-suc : (y : List ℕ) (n : ℕ) → totalTo y (suc n) ≡ totalTo y n + getD y n 0
-unfolding totalTo
-total-suc y n = refl
-
-pub total-zero : (y : List ℕ) → totalTo y 0 ≡ 0
-unfolding totalTo
-total-zero y = refl
-
--- one place less, or this one
-pub suc-cases : (b n : ℕ) → b < suc n → (b ≡ n) ⊎ (b < n)
-suc-cases b n h = eq-or-lt-of-le (le-of-suc-le-suc h)
-
-pub place-le : (y : List ℕ) (b n : ℕ) → b < n → getD y b 0 ≤ totalTo y n
-place-le y b zero h = absurd (not-suc-le-zero h)
-place-le y b (suc n) h =
-    elim (suc-cases b n h) [
-      | inl e ↦ rw (e, total-suc) (omega arith)
-      | inr l ↦ omega (arith, total-suc y n, place-le y b n l)
-    ]
-
--- a place at or past n does not count
-pub total-past : (y : List ℕ) (b v n : ℕ) → n ≤ b → totalTo (set y b v) n ≡ totalTo y n
-total-past y b v zero h = total-zero _ ∙ sym (total-zero y)
-total-past y b v (suc n) h =
-    omega (arith, total-suc (set y b v) n, total-suc y n, total-past y b v n (le-trans (le-suc n) h), read-below ℕ y b n v 0 (getD y n 0) h refl)
-
-pub total-one : (y : List ℕ) (b n : ℕ) → b < n → b < length y → totalTo (set y b (getD y b 0 + 1)) n ≡ totalTo y n + 1
-total-one y b zero h l = absurd (not-suc-le-zero h)
-total-one y b (suc n) h l =
-    elim (suc-cases b n h) [
-      | inl e ↦
-          omega (
-            arith,
-            total-suc (set y b (getD y b 0 + 1)) n,
-            total-suc y n,
-            total-past y b (getD y b 0 + 1) n (le-of-eq (sym e)),
-            subst (λ (k : ℕ). getD (set y b (getD y b 0 + 1)) k 0 ≡ getD y k 0 + 1) e (getD-set-same y b (getD y b 0 + 1) 0 l),
-          )
-      | inr k ↦
-          omega (arith, total-suc (set y b (getD y b 0 + 1)) n, total-suc y n, total-one y b n k l, read-above ℕ y b n (getD y b 0 + 1) 0 (getD y n 0) k refl)
-    ]
-
 -- ---- k pulses
 pub more-suc : (a : List Float) (m k : ℕ) (s : Search) → more a m (suc k) s ≡ onePulse a m (more a m k s)
 unfolding more
@@ -98,7 +56,7 @@ pub more-zero : (a : List Float) (m : ℕ) (s : Search) → more a m 0 s ≡ s
 unfolding more
 more-zero a m s = refl
 
-one-pulses : (a : List Float) (m : ℕ) (s : Search) → onePulse a m s .pulses ≡ set (s .pulses) (bestTo a (s .pulses) (s .kept) m) (getD (s .pulses) (bestTo a (s .pulses) (s .kept) m) 0 + 1)
+one-pulses : (a : List Float) (m : ℕ) (s : Search) → onePulse a m s .pulses ≡ set (s .pulses) (bestTo a (s .pulses) (s .pair) m) (getD (s .pulses) (bestTo a (s .pulses) (s .pair) m) 0 + 1)
 unfolding onePulse
 one-pulses a m s = refl
 
@@ -112,9 +70,9 @@ more-length a m (suc k) s = ap (λ (t : Search). length (t .pulses)) (more-suc a
 module _ (a : List Float) (m n : ℕ) (h : m < n) where
   one-total : (s : Search) → n ≤ length (s .pulses) → totalTo (onePulse a m s .pulses) n ≡ totalTo (s .pulses) n + 1
   one-total s l =
-      let b = bestTo a (s .pulses) (s .kept) m in
-      let i : b < n = omega (arith, best-le a (s .pulses) (s .kept) m) in
-      ap (λ (y : List ℕ). totalTo y n) (one-pulses a m s) ∙ total-one (s .pulses) b n i (omega (arith, best-le a (s .pulses) (s .kept) m))
+      let b = bestTo a (s .pulses) (s .pair) m in
+      let i : b < n = omega (arith, best-le a (s .pulses) (s .pair) m) in
+      ap (λ (y : List ℕ). totalTo y n) (one-pulses a m s) ∙ total-one (s .pulses) b n i (omega (arith, best-le a (s .pulses) (s .pair) m))
 
   -- every pulse counts
   pub more-total : (k : ℕ) (s : Search) → n ≤ length (s .pulses) → totalTo (more a m k s .pulses) n ≡ totalTo (s .pulses) n + k
@@ -126,8 +84,8 @@ module _ (a : List Float) (m n : ℕ) (h : m < n) where
   -- places past the last stay
   one-past : (s : Search) (i : ℕ) → n ≤ i → getD (onePulse a m s .pulses) i 0 ≡ getD (s .pulses) i 0
   one-past s i l =
-      let b = bestTo a (s .pulses) (s .kept) m in
-      let j : b < i = omega (arith, best-le a (s .pulses) (s .kept) m) in
+      let b = bestTo a (s .pulses) (s .pair) m in
+      let j : b < i = omega (arith, best-le a (s .pulses) (s .pair) m) in
       ap (λ (y : List ℕ). getD y i 0) (one-pulses a m s) ∙ read-above ℕ (s .pulses) b i (getD (s .pulses) b 0 + 1) 0 (getD (s .pulses) i 0) j refl
 
   pub more-past : (k : ℕ) (s : Search) (i : ℕ) → n ≤ i → getD (more a m k s .pulses) i 0 ≡ getD (s .pulses) i 0
@@ -135,31 +93,14 @@ module _ (a : List Float) (m n : ℕ) (h : m < n) where
   more-past (suc k) s i l = rw more-suc (one-past (more a m k s) i l ∙ more-past k s i l)
 
 -- ---- a turn of the code
-pub search-of : List ℕ → SearchRecord → SearchRecord → Search
-search-of y k h = record { pulses = y; kept = k; handed = h }
+pub search-start : (a : List Float) (m : ℕ) (y : List ℕ) (r : SearchRecord) → start y r ≡ more a m 0 (start y r)
+search-start a m y r = sym (more-zero a m (start y r))
 
-pub search-start : (a : List Float) (m : ℕ) (y : List ℕ) (r : SearchRecord) → search-of y r r ≡ more a m 0 (start y r)
-unfolding more search-of
-search-start a m y r = refl
-
-pub search-pulses : (y : List ℕ) (k h : SearchRecord) (s : Search) → search-of y k h ≡ s → y ≡ s .pulses
-unfolding search-of
-search-pulses y k h s e = ap (λ (t : Search). t .pulses) e
-
-pub search-handed : (y : List ℕ) (k h : SearchRecord) (s : Search) → search-of y k h ≡ s → h ≡ s .handed
-unfolding search-of
-search-handed y k h s e = ap (λ (t : Search). t .handed) e
-
-pub search-step : (a : List Float) (m j : ℕ) (s : Search) (y : List ℕ) (k h : SearchRecord) (b : ℕ) (p q v : SearchRecord) → search-of y k h ≡ more a m j s
-    → b ≡ bestTo a y k m → p ≡ pairAt a y k m → q ≡ pairAt a y k b → v ≡ handedOn p q → search-of (set y b (getD y b 0 + 1)) q v ≡ more a m (j + 1) s
-unfolding search-of onePulse
-search-step a m j s y k h b p q v e eb ep eq ev =
-    rw (add-one j, more-suc) (rw (ev, ep, eq, eb) (ap (onePulse a m) e))
-
--- the pair handed on is one of the two
-pub hand-either : (P : SearchRecord → Type 0) (l c : SearchRecord) → P l → P c → P (handedOn l c)
-unfolding handedOn
-hand-either P l c p q = search (p, q)
+pub search-step : (a : List Float) (m j : ℕ) (s : Search) (y : List ℕ) (r : SearchRecord) (b : ℕ) (p : SearchRecord) → start y r ≡ more a m j s
+    → b ≡ bestTo a y r m → p ≡ pairAt a y r b → start (set y b (getD y b 0 + 1)) p ≡ more a m (j + 1) s
+unfolding onePulse
+search-step a m j s y r b p e eb ep =
+    rw (add-one j, more-suc) (rw (ep, eb) (ap (onePulse a m) e))
 
 pub best-under : (a : List Float) (y : List ℕ) (r : SearchRecord) (b m n : ℕ) → b ≡ bestTo a y r m → m < n → b < n
 best-under a y r b m n e h = omega (arith, best-le a y r m)
@@ -169,10 +110,6 @@ pub more-fits : (a : List Float) (m j k n t b : ℕ) (s : Search) (y : List ℕ)
 more-fits a m j k n t b s y h l e i g f =
     omega (arith, place-le (more a m j s .pulses) b n i, more-total a m n h j s l, ap (λ (z : List ℕ). getD z b 0) e)
 
-pub one-kept : (a : List Float) (m : ℕ) (s : Search) → onePulse a m s .kept ≡ pairAt a (s .pulses) (s .kept) (bestTo a (s .pulses) (s .kept) m)
+pub one-pair : (a : List Float) (m : ℕ) (s : Search) → onePulse a m s .pair ≡ pairAt a (s .pulses) (s .pair) (bestTo a (s .pulses) (s .pair) m)
 unfolding onePulse
-one-kept a m s = refl
-
-pub one-handed : (a : List Float) (m : ℕ) (s : Search) → onePulse a m s .handed ≡ handedOn (pairAt a (s .pulses) (s .kept) m) (pairAt a (s .pulses) (s .kept) (bestTo a (s .pulses) (s .kept) m))
-unfolding onePulse
-one-handed a m s = refl
+one-pair a m s = refl

@@ -1,2 +1,3 @@
 pub mod Pulse
 pub mod Lanes
+pub mod Claims

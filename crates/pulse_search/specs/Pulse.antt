@@ -1,7 +1,7 @@
 -- One pulse, and single pulses one after another. Definitions only.
 use mathlib.Core.Bool.{Bool}
 use mathlib.Core.List.{List}
-use Prim.Native.Nat.{ℕ, zero, suc, _+_, _-_}
+use Prim.Native.Nat.{ℕ, zero, suc, _+_, _-_, _*_}
 use lib.IntN.{pos}
 use lib.ListN.{getD, set}
 use lib.Ieee.{Float, nan, binary32, ofBits, ofInt, add, mul, lt}
@@ -40,28 +40,21 @@ bestTo a y r (suc n) =
     let best = bestTo a y r n in
     choose (replaces (pairAt a y r (suc n)) (pairAt a y r best)) (suc n) best
 
--- the pulses of a search, the pair that it keeps from one pulse to the next, and the pair that it hands on to the next shape
+-- the pulses of a search, and the pair that the running search record holds
 pub record Search : Type 0 where
   pub pulses : List ℕ
-  pub kept : SearchRecord
-  pub handed : SearchRecord
+  pub pair : SearchRecord
 
--- with no pulse added the pair handed on is unchanged
 abbrev pub start : List ℕ → SearchRecord → Search
-start y r = record { pulses = y; kept = r; handed = r }
+start y r = record { pulses = y; pair = r }
 
--- The record always holds the pair belonging to the pulses placed: the pair handed on to the next shape is that of the place chosen.
-unfoldable pub handedOn : SearchRecord → SearchRecord → SearchRecord
-handedOn scanned chosen = chosen
-
--- one pulse over places 0 to last; between pulses of one shape the chosen place's pair is kept
+-- One pulse over places 0 to last. The record always holds the pair belonging to the pulses placed: from here on that of the place chosen.
 unfoldable pub onePulse : List Float → ℕ → Search → Search
 onePulse a last s =
-    let chosen = bestTo a (s .pulses) (s .kept) last in
+    let chosen = bestTo a (s .pulses) (s .pair) last in
     record {
       pulses = set (s .pulses) chosen (getD (s .pulses) chosen 0 + 1);
-      kept = pairAt a (s .pulses) (s .kept) chosen;
-      handed = handedOn (pairAt a (s .pulses) (s .kept) last) (pairAt a (s .pulses) (s .kept) chosen);
+      pair = pairAt a (s .pulses) (s .pair) chosen;
     }
 
 -- k single pulses
@@ -69,11 +62,19 @@ unfoldable pub more : List Float → ℕ → ℕ → Search → Search
 more a last zero s = s
 more a last (suc k) s = onePulse a last (more a last k s)
 
--- the pulses of the first n places
-unfoldable pub totalTo : List ℕ → ℕ → ℕ
-totalTo y zero = 0
-totalTo y (suc n) = totalTo y n + getD y n 0
+-- f of a place's pulses, added up over the first n places
+unfoldable pub sumOver : (ℕ → ℕ) → List ℕ → ℕ → ℕ
+sumOver f y zero = 0
+sumOver f y (suc n) = sumOver f y n + f (getD y n 0)
 
--- single pulses up to k over places 0 to last, from what the shape before hands on
+-- the pulses of the first n places
+abbrev pub totalTo : List ℕ → ℕ → ℕ
+totalTo y n = sumOver (λ w. w) y n
+
+-- the sum of their squares: the squared length
+abbrev pub squareTo : List ℕ → ℕ → ℕ
+squareTo y n = sumOver (λ w. w * w) y n
+
+-- single pulses up to k over places 0 to last: each shape goes on with the pulses and the pair of the one before
 abbrev pub upTo : List Float → ℕ → ℕ → Search → Search
-upTo a last k s = more a last (k - totalTo (s .pulses) (suc last)) (start (s .pulses) (s .handed))
+upTo a last k s = more a last (k - totalTo (s .pulses) (suc last)) s

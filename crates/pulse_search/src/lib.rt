@@ -5,7 +5,7 @@ ghost use mathlib.Core.Path.{_≡_};
 ghost use Prim.Native.Nat.{_+_, _-_, _<_, _≤_};
 ghost use lib.ListN.{length};
 ghost use Rattle.pulse_search.specs.Lanes.{firstOf};
-ghost use Rattle.pulse_search.specs.Pulse.{pairAt, replaces, bestTo, handedOn, start, more, totalTo};
+ghost use Rattle.pulse_search.specs.Pulse.{pairAt, replaces, bestTo, start, more, totalTo};
 
 pub mod guess;
 
@@ -76,14 +76,7 @@ fn best_place(
     g
 }
 
-// The pair for the next shape, of those of the last place scanned and of the place chosen.
-fn hand_on(scanned: SearchRecord, chosen: SearchRecord) -> SearchRecord
-    ensures { λ p. ⌜ p ≡ handedOn scanned chosen ⌝ }
-{
-    chosen
-}
-
-// From k pulses up to k_max, over places 0 to last; answers the pair that the next shape starts from.
+// From k pulses up to k_max, over places 0 to last; answers their pair, from which the next shape goes on.
 pub fn add_unit_pulse(
     abs_x: &[f32; 16],
     last: usize,
@@ -94,21 +87,17 @@ pub fn add_unit_pulse(
 ) -> SearchRecord
     requires { ⌜ (last < 16) × (length (now y) ≡ 16) × (k ≤ «k_max») × (totalTo (now y) 16 + («k_max» - k) ≤ 255) ⌝ }
     ensures pulses { λ p. ⌜ now (y .exit) ≡ more (now («abs_x» .entry)) last («k_max» - k) (start (now (y .entry)) r) .pulses ⌝ }
-    ensures handed { λ p. ⌜ p ≡ more (now («abs_x» .entry)) last («k_max» - k) (start (now (y .entry)) r) .handed ⌝ }
+    ensures pair { λ p. ⌜ p ≡ more (now («abs_x» .entry)) last («k_max» - k) (start (now (y .entry)) r) .pair ⌝ }
 {
     let count = k_max - k;
     let low_x = guess::first_places(abs_x, last);
-    let mut kept = r;
-    let mut handed = r;
+    let mut pair = r;
     let mut added = 0usize;
     while added < count {
-        let n_best = best_place(abs_x, &low_x, y, kept, last);
-        let scanned = pair_at(abs_x, y, kept, last);
-        let chosen = pair_at(abs_x, y, kept, n_best);
-        handed = hand_on(scanned, chosen);
-        kept = chosen;
+        let n_best = best_place(abs_x, &low_x, y, pair, last);
+        pair = pair_at(abs_x, y, pair, n_best);
         y[n_best] = y[n_best] + 1;
         added += 1;
     }
-    handed
+    pair
 }
