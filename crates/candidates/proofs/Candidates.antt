@@ -16,7 +16,7 @@ use Rattle.list_laws.proofs.ListOf.{getD-listOf}
 use Rattle.roots.specs.Root.{rootOf}
 use Rattle.sns_tables.specs.Gains.{gainAt}
 use Rattle.shape_search.specs.Projection.{nought}
-use Rattle.shape_search.specs.Shape.{squareTo}
+use Rattle.pulse_search.specs.Pulse.{squareTo}
 use Rattle.candidates.specs.Candidate.{signedOf, signedAt, lengthOf, distortionOf}
 use Rattle.candidates.specs.Scan.{choices, choiceAt, gainOf, distortionAt, winnerOf}
 use Rattle.candidates.specs.declared.Choice.{Choice}

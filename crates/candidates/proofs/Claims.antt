@@ -24,8 +24,8 @@ use Rattle.list_laws.proofs.ListOf.{getD-listOf}
 use Rattle.roots.proofs.Unit.{unit}
 use Rattle.sns_tables.proofs.Sizes.{gain-within}
 use Rattle.shape_search.specs.Projection.{nought}
-use Rattle.shape_search.specs.Shape.{squareTo}
-use Rattle.shape_search.proofs.Facts.{place-square}
+use Rattle.pulse_search.specs.Pulse.{squareTo}
+use Rattle.pulse_search.proofs.Sums.{sum-place}
 use Rattle.candidates.specs.Candidate.{signedOf, signedAt, lengthOf, candidateOf, squared, distortionOf}
 use Rattle.candidates.specs.Scan.{choices, choiceAt, gainOf, distortionAt, winnerOf}
 use Rattle.candidates.specs.Claims.{Units, NoNan, WinnerFirst, WinnerOnly}
@@ -44,7 +44,7 @@ units t y s n h =
     let z = signedOf (lt (getD t n nan) nought) (getD y n 0) in
     subst (λ (x : Float). Within x 1 1) (sym (getD-listOf 16 (λ n. div binary32 (ofInt binary32 (signedAt t y n)) (lengthOf y)) nan n h))
     (unit (squareTo y 16) z (s .some) (s .few)
-    (subst (λ (d : ℕ). d * d ≤ squareTo y 16) (sym (signed-size (lt (getD t n nan) nought) (getD y n 0))) (place-square y n 16 h)))
+    (subst (λ (d : ℕ). d * d ≤ squareTo y 16) (sym (signed-size (lt (getD t n nan) nought) (getD y n 0))) (sum-place (λ w. w * w) y n 16 h)))
 
 -- ---- distortions
 gain-six : (i : ℕ) → i < choices → Within (gainOf i) 6 1

@@ -9,7 +9,7 @@ use Rattle.float_laws.specs.Running.{sumTo}
 use Rattle.list_laws.specs.ListOf.{listOf}
 use Rattle.roots.specs.Root.{rootOf}
 use Rattle.shape_search.specs.Projection.{nought}
-use Rattle.shape_search.specs.Shape.{squareTo}
+use Rattle.pulse_search.specs.Pulse.{squareTo}
 
 -- d pulses, below zero where the test is true
 unfoldable pub signedOf : Bool → ℕ → ℤ

@@ -10,7 +10,7 @@ ghost use Rattle.float_laws.specs.Scan.{leastTo};
 ghost use Rattle.list_laws.specs.ListOf.{listOf};
 ghost use Rattle.roots.specs.Root.{rootTable};
 ghost use Rattle.shape_search.specs.Projection.{nought};
-ghost use Rattle.shape_search.specs.Shape.{squareTo};
+ghost use Rattle.pulse_search.specs.Pulse.{squareTo};
 ghost use Rattle.candidates.specs.Candidate.{signedOf, candidateOf, distortionOf};
 ghost use Rattle.candidates.specs.Scan.{choices, choiceAt, gainOf, distortionAt, winnerOf};
 

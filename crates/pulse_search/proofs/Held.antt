@@ -25,12 +25,12 @@ two-is : two ≡ ofInt binary32 (pos 2)
 unfolding ofBits ofInt
 two-is = refl
 
-far : (n : ℕ) → n ≤ 65536 → n ≤ 2 ^ prec binary32
+pub far : (n : ℕ) → n ≤ 65536 → n ≤ 2 ^ prec binary32
 far n h = le-trans h (lit≤ tt)
 
 -- the squares of at most 255 pulses
-squares-few : (y : List ℕ) → totalTo y 16 ≤ 255 → squareTo y 16 ≤ 65025
-squares-few y h = le-trans (square-high y 16) (mul-le-mul h h)
+pub squares-few : (y : List ℕ) (n : ℕ) → totalTo y n ≤ 255 → squareTo y n ≤ 65025
+squares-few y n h = le-trans (square-high y n) (mul-le-mul h h)
 
 -- an energy that is the sum of the squares is all that is asked
 pub belongs-of : (s : Search) → totalTo (s .pulses) 16 ≤ 255 → s .pair .energy ≡ ofInt binary32 (pos (squareTo (s .pulses) 16)) → Belongs s
@@ -38,7 +38,7 @@ belongs-of s h e =
     let y = s .pulses in
     record {
       squares = e;
-      exactly = whole-exact binary32 (squareTo y 16) (far (squareTo y 16) (le-trans (squares-few y h) (lit≤ tt)));
+      exactly = whole-exact binary32 (squareTo y 16) (far (squareTo y 16) (le-trans (squares-few y 16 h) (lit≤ tt)));
       least = λ l. rw (e, one-is) (whole-le binary32 1 (squareTo y 16) (le-trans l (square-low y 16)));
     }
 
@@ -63,7 +63,7 @@ tried-belong a s l h b n i =
     let t : totalTo y 16 ≤ 255 = omega arith in
     belongs-of (start (set y n (w + 1)) (pairAt a y (s .pair) n)) (le-trans (le-of-eq (total-one y n 16 i j)) h)
     (ap (λ (x : Float). add binary32 (add binary32 x (mul binary32 two (amount y n))) one) (b .squares)
-    ∙ grow (squareTo y 16) w (squares-few y t) (le-trans (place-le y n 16 i) t)
+    ∙ grow (squareTo y 16) w (squares-few y 16 t) (le-trans (place-le y n 16 i) t)
     ∙ ap (λ (k : ℕ). ofInt binary32 (pos k)) (sym (square-more y n 16 i j)))
 
 -- ---- and so after every pulse

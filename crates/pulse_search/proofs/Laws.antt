@@ -1,15 +1,13 @@
 -- The laws of single pulses. Assumes nothing.
-use mathlib.Core.Path.{_≡_, refl, sym, ap, _∙_, subst}
+use mathlib.Core.Path.{_≡_, refl, sym, ap, _∙_}
 use mathlib.Core.Bool.{Bool, true, false}
 use mathlib.Core.List.{List}
-use mathlib.Core.Logic.{_⊎_, inl, inr}
 use Prim.Native.Nat.{ℕ, zero, suc, _+_, _-_, _≤_, _<_}
-use native.Mathlib.Nat.{le-refl, le-trans, le-suc, le-of-eq, eq-or-lt-of-le, le-of-suc-le-suc, not-suc-le-zero}
+use native.Mathlib.Nat.{le-refl, le-trans, le-suc}
 use native.Mathlib.Numerals.{add-one}
 use native.Mathlib.Omega.{arith}
-use borrow.Author.Needs.{read-below, read-above}
+use borrow.Author.Needs.{read-above}
 use lib.ListN.{length, getD, set, length-set}
-use lib.Seq.{getD-set-same}
 use lib.Ieee.{Float}
 use Rattle.float_laws.specs.Scan.{choose}
 use Rattle.pulse_search.specs.declared.SearchRecord.{SearchRecord}

@@ -75,6 +75,10 @@ totalTo y n = sumOver (λ w. w) y n
 abbrev pub squareTo : List ℕ → ℕ → ℕ
 squareTo y n = sumOver (λ w. w * w) y n
 
--- single pulses up to k over places 0 to last: each shape goes on with the pulses and the pair of the one before
+-- how many pulses places 0 to last have to come to k
+abbrev pub missing : ℕ → ℕ → Search → ℕ
+missing last k s = k - totalTo (s .pulses) (suc last)
+
+-- single pulses up to k over places 0 to last: the next shape goes on with the pulses and the pair of the one before
 abbrev pub upTo : List Float → ℕ → ℕ → Search → Search
-upTo a last k s = more a last (k - totalTo (s .pulses) (suc last)) s
+upTo a last k s = more a last (missing last k s) s

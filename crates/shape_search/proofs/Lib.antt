@@ -1,5 +1,6 @@
 pub mod Projection
 pub mod Shapes
 pub mod Facts
+pub mod Held
 pub mod Sized
 pub mod Claims

@@ -45,35 +45,35 @@ largest-keep a n b e w = rw (add-one n) (go (rw add-one at w))
 -- ---- from shape to shape, as the code goes on: its pulses and its pair are those of the search s
 pub record Reached (s : Search) (y : List ℕ) (r : SearchRecord) : Type 0 where
   pub pulses : y ≡ s .pulses
-  pub handed : r ≡ s .handed
+  pub pair : r ≡ s .pair
 
 pub begun : (s : Search) (b : Start) → b ≡ begunOf s → Reached s (b .y) (b .pair)
-begun s b e = record { pulses = ap (λ (b : Start). b .y) e; handed = ap (λ (b : Start). b .pair) e }
+begun s b e = record { pulses = ap (λ (b : Start). b .y) e; pair = ap (λ (b : Start). b .pair) e }
 
 -- `add_unit_pulse` from k pulses up to m
 module _ (a : List Float) (s : Search) (y : List ℕ) (r : SearchRecord) (h : Reached s y r) where
-  on : (last k m : ℕ) → k ≡ totalTo (s .pulses) (suc last) → (z : List ℕ) (p : SearchRecord) → z ≡ more a last (m - k) (start y r) .pulses → p ≡ more a last (m - k) (start y r) .handed
+  on : (last k m : ℕ) → k ≡ totalTo (s .pulses) (suc last) → (z : List ℕ) (p : SearchRecord) → z ≡ more a last (m - k) (start y r) .pulses → p ≡ more a last (m - k) (start y r) .pair
       → Reached (upTo a last m s) z p
-  on last k m t z p i j = record { pulses = rw (h .pulses, h .handed, t) at i; handed = rw (h .pulses, h .handed, t) at j }
+  on last k m t z p i j = record { pulses = rw (h .pulses, h .pair, t) at i; pair = rw (h .pulses, h .pair, t) at j }
 
   pub on-low : (z : List ℕ) (p : SearchRecord) → z ≡ lowOf y → p ≡ droppedTo a y r 6 → Reached (lowered a s) z p
   unfolding lowered
-  on-low z p i j = record { pulses = rw (h .pulses) at i; handed = rw (h .pulses, h .handed) at j }
+  on-low z p i j = record { pulses = rw (h .pulses) at i; pair = rw (h .pulses, h .pair) at j }
 
   -- the room that it asks, for a total of at most t
   pub room : (last k m t : ℕ) → last < 16 → length (s .pulses) ≡ 16 → totalTo (s .pulses) 16 ≤ t → k ≤ m → t + m ≤ 255 → (last < 16) × (length y ≡ 16) × (k ≤ m) × (totalTo y 16 + (m - k) ≤ 255)
   room last k m t i l g j u = (i, ap length (h .pulses) ∙ l, j, omega (arith, ap (λ (z : List ℕ). totalTo z 16) (h .pulses)))
 
 module _ (a : List Float) (y z : List ℕ) (r p : SearchRecord) (k : ℕ) where
-  pub on-three : Reached (projection a) y r → k ≡ totalTo (projection a .pulses) 16 → z ≡ more a 15 (6 - k) (start y r) .pulses → p ≡ more a 15 (6 - k) (start y r) .handed → Reached (shape3 a) z p
+  pub on-three : Reached (projection a) y r → k ≡ totalTo (projection a .pulses) 16 → z ≡ more a 15 (6 - k) (start y r) .pulses → p ≡ more a 15 (6 - k) (start y r) .pair → Reached (shape3 a) z p
   unfolding shape3
   on-three h t i j = on a (projection a) y r h 15 k 6 t z p i j
 
-  pub on-two : Reached (shape3 a) y r → z ≡ more a 15 (8 - 6) (start y r) .pulses → p ≡ more a 15 (8 - 6) (start y r) .handed → Reached (shape2 a) z p
+  pub on-two : Reached (shape3 a) y r → z ≡ more a 15 (8 - 6) (start y r) .pulses → p ≡ more a 15 (8 - 6) (start y r) .pair → Reached (shape2 a) z p
   unfolding shape2
   on-two h i j = on a (shape3 a) y r h 15 6 8 (sym (three-total a)) z p i j
 
-  pub on-one : Reached (lowered a (shape2 a)) y r → k ≡ totalTo y 10 → z ≡ more a 9 (10 - k) (start y r) .pulses → p ≡ more a 9 (10 - k) (start y r) .handed → Reached (shape1 a) z p
+  pub on-one : Reached (lowered a (shape2 a)) y r → k ≡ totalTo y 10 → z ≡ more a 9 (10 - k) (start y r) .pulses → p ≡ more a 9 (10 - k) (start y r) .pair → Reached (shape1 a) z p
   unfolding shape1
   on-one h t i j = on a (lowered a (shape2 a)) y r h 9 k 10 (t ∙ ap (λ (w : List ℕ). totalTo w 10) (h .pulses)) z p i j
 

@@ -1,16 +1,17 @@
--- What is shown of the shapes. Definitions only; the proofs are in proofs/Claims and proofs/Sized.
+-- What is shown of the shapes. Definitions only; the proofs are in proofs/Claims, proofs/Held and proofs/Sized.
 use mathlib.Core.Path.{_≡_}
 use mathlib.Core.List.{List, [], _∷_}
-use Prim.Native.Nat.{ℕ, suc, _-_, _≤_, _<_}
+use Prim.Native.Nat.{ℕ, _≤_, _<_}
 use lib.Dec.{T}
 use lib.ListN.{length}
 use lib.Ieee.{Float, binary32, mul}
 use Rattle.float_laws.specs.Bounded.{Bounded}
 use Rattle.float_laws.specs.Kind.{finite}
 use Rattle.list_laws.specs.ListOf.{listOf}
-use Rattle.pulse_search.specs.Pulse.{square, pairAt, Search, start, more, totalTo}
+use Rattle.pulse_search.specs.Pulse.{square, pairAt, Search, more, missing, upTo, totalTo, squareTo}
+use Rattle.pulse_search.specs.Claims.{Held}
 use Rattle.shape_search.specs.Projection.{projection}
-use Rattle.shape_search.specs.Shape.{shape3, shape2, lowered, shapePulses, squareTo}
+use Rattle.shape_search.specs.Shape.{shape3, shape2, lowered, shapePulses}
 
 -- each shape's pulses add up to exactly its count, for every a: ten and one, ten, eight, six
 abbrev pub Totals : Type 0
@@ -29,22 +30,30 @@ pub record Sound (y : List ℕ) : Type 0 where
 abbrev pub ShapesSound : Type 0
 ShapesSound = (a : List Float) (s : ℕ) → Sound (shapePulses a s)
 
+-- what is said of k single pulses over places 0 to last from s, of each of the three searches
+pub record Each (P : ℕ → ℕ → Search → Type 0) (a : List Float) : Type 0 where
+  pub three : P 15 (missing 15 6 (projection a)) (projection a)
+  pub two : P 15 (missing 15 8 (shape3 a)) (shape3 a)
+  pub one : P 9 (missing 9 10 (lowered a (shape2 a))) (lowered a (shape2 a))
+
+-- From its start on and after every pulse of every search, the record belongs to the pulses placed: for every a.
+abbrev pub SearchesHeld : Type 0
+SearchesHeld = (a : List Float) → Each (Held a) a
+
+-- Shapes 3 and 2 are one search from the projection on: nothing is lost where one shape hands over to the next.
+abbrev pub OneSearch : Type 0
+OneSearch = (a : List Float) → shape2 a ≡ upTo a 15 8 (projection a)
+
 -- while k single pulses are sought over places 0 to last, every product that is compared is finite
 abbrev pub Compares : List Float → ℕ → ℕ → Search → Type 0
 Compares a last k s =
     (i : ℕ) → i < k → (n m : ℕ) → n < 16 → m < 16
-    → T (finite (mul binary32 (square (pairAt a (more a last i s .pulses) (more a last i s .kept) n .correlation)) (pairAt a (more a last i s .pulses) (more a last i s .kept) m .energy)))
+    → T (finite (mul binary32 (square (pairAt a (more a last i s .pulses) (more a last i s .pair) n .correlation)) (pairAt a (more a last i s .pulses) (more a last i s .pair) m .energy)))
 
--- the search up to k pulses, from what s hands on
-abbrev pub Searches : List Float → ℕ → ℕ → Search → Type 0
-Searches a last k s = Compares a last (k - totalTo (s .pulses) (suc last)) (start (s .pulses) (s .handed))
+-- in the three searches
+abbrev pub Finite : List Float → Type 0
+Finite a = Each (Compares a) a
 
--- the three searches
-pub record Finite (a : List Float) : Type 0 where
-  pub three : Searches a 15 6 (projection a)
-  pub two : Searches a 15 8 (shape3 a)
-  pub one : Searches a 9 10 (lowered a (shape2 a))
-
--- no compared value is NaN or infinite, though correlation and energy go below zero
+-- no compared value is NaN or infinite
 abbrev pub SearchesFinite : Type 0
 SearchesFinite = (a : List Float) → Bounded 16 16384 a → Finite a

@@ -93,4 +93,4 @@ projection a =
 
 -- as the code holds it: the pulses, how many there are, and their pair
 abbrev pub begunOf : Search → Start
-begunOf s = record { y = s .pulses; k = totalTo (s .pulses) 16; pair = s .handed }
+begunOf s = record { y = s .pulses; k = totalTo (s .pulses) 16; pair = s .pair }

@@ -1,6 +1,6 @@
 -- The four shapes' pulses, without signs. Definitions only.
 use mathlib.Core.List.{List}
-use Prim.Native.Nat.{ℕ, zero, suc, _+_, _*_}
+use Prim.Native.Nat.{ℕ, zero, suc, _+_}
 use lib.Dec.{ltb}
 use lib.ListN.{getD, set}
 use lib.Ieee.{Float, nan, binary32, sub, lt}
@@ -36,7 +36,7 @@ droppedTo a y r zero = r
 droppedTo a y r (suc n) = dropped (droppedTo a y r n) (getD y (10 + n) 0) (getD a (10 + n) nan)
 
 unfoldable pub lowered : List Float → Search → Search
-lowered a s = start (lowOf (s .pulses)) (droppedTo a (s .pulses) (s .handed) 6)
+lowered a s = start (lowOf (s .pulses)) (droppedTo a (s .pulses) (s .pair) 6)
 
 -- go on up to 10 over places 0 to 9
 unfoldable pub shape1 : List Float → Search
@@ -59,8 +59,3 @@ shapePulses a zero = shape0 a
 shapePulses a (suc zero) = shape1 a .pulses
 shapePulses a (suc (suc zero)) = shape2 a .pulses
 shapePulses a (suc (suc (suc s))) = shape3 a .pulses
-
--- the squared length of the first n places
-unfoldable pub squareTo : List ℕ → ℕ → ℕ
-squareTo y zero = 0
-squareTo y (suc n) = squareTo y n + getD y n 0 * getD y n 0

@@ -1,5 +1,7 @@
 -- The demands of specs/Demands.antt, each theorem from the file that shows it. Assumes nothing.
 use Rattle.numbering.proofs.Claims.{claim}
+use Rattle.pulse_search.proofs.Held.{record-ordered}
+use Rattle.shape_search.proofs.Held.{searches-held, one-search}
 use Rattle.candidates.proofs.Choices.{choices-are, all-tried}
 use Rattle.synthesis.proofs.Claims.{within-64}
 use Rattle.sns.specs.Demands.{Answered, Kept, Taken, Numbered, Unbeaten}
@@ -64,4 +66,7 @@ unbeaten =
       answered = encode.all-answered;
       decodes-again = encode.decodes-again;
       factors-alone = encode.factors-alone;
+      searches-held = searches-held;
+      one-search = one-search;
+      record-ordered = record-ordered;
     }

@@ -1,6 +1,8 @@
 -- The demands on the public calls, each a record of theorems. The proofs are in proofs/Demands.antt; the contracts of crate sns say
 -- that the code does what these definitions say, for every input, with nothing asked of the caller. Definitions only.
 use Rattle.numbering.specs.Claims as numbering
+use Rattle.pulse_search.specs.Claims as pulses
+use Rattle.shape_search.specs.Claims as shapes
 use Rattle.candidates.specs.Claims as candidates
 use Rattle.synthesis.specs.Claims as synthesis
 use Rattle.sns.specs.Claims as claims
@@ -46,7 +48,7 @@ pub record Numbered : Type 0 where
   pub decoded-within : synthesis.Within64
 
 -- 3. None of the 18 scanned choices, each shape with each gain that the tables hold, beats the answer; decoded again it gives the winner's
--- very pulses; it depends on the sixteen factors alone.
+-- very pulses; it depends on the sixteen factors alone. The shapes are sought with the pair that belongs to the pulses placed, after every pulse.
 pub record Unbeaten : Type 0 where
   pub in-all : candidates.InAll
   pub all-tried : candidates.AllTried
@@ -55,3 +57,6 @@ pub record Unbeaten : Type 0 where
   pub answered : encode.AllAnswered
   pub decodes-again : encode.DecodesAgain
   pub factors-alone : encode.FactorsAlone
+  pub searches-held : shapes.SearchesHeld
+  pub one-search : shapes.OneSearch
+  pub record-ordered : pulses.RecordOrdered

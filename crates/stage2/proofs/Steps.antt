@@ -12,7 +12,7 @@ use Rattle.list_laws.proofs.ListOf.{getD-listOf}
 use Rattle.sns_tables.specs.Rotation.{dRows, dAt}
 use Rattle.sns_tables.specs.Gains.{gainAt}
 use Rattle.shape_search.specs.Projection.{nought}
-use Rattle.shape_search.specs.Shape.{squareTo}
+use Rattle.pulse_search.specs.Pulse.{squareTo}
 use Rattle.shape_search.proofs.Claims.{shapes-sound}
 use Rattle.stage2_target.specs.Target.{targetOf, absolutesOf}
 use Rattle.candidates.specs.declared.Choice.{Choice}

@@ -16,7 +16,7 @@ use Rattle.shapes.specs.Sets.{setA, setB}
 use Rattle.numbering.specs.Numbering.{pulsesOf, PulseVector, indexOf, leadSign, vectorAt}
 use Rattle.numbering.proofs.Claims.{regular-a, regular-b, outlier-near, outlier-far}
 use Rattle.pulse_search.specs.Pulse.{totalTo}
-use Rattle.pulse_search.proofs.Laws.{total-suc, total-zero}
+use Rattle.pulse_search.proofs.Sums.{total-suc, total-zero}
 use Rattle.shape_search.specs.Projection.{nought}
 use Rattle.shape_search.specs.Shape.{shapePulses}
 use Rattle.shape_search.proofs.Facts.{zero-low, zero-total, one-low, one-zero, two-total, three-total}

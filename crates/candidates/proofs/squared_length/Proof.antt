@@ -6,7 +6,7 @@ use native.Mathlib.Omega.{arith}
 use native.Mathlib.Numerals.{add-one}
 use borrow.Author.Needs.{needs}
 use lib.ListN.{getD}
-use Rattle.shape_search.specs.Shape.{squareTo}
+use Rattle.pulse_search.specs.Pulse.{sumOver, squareTo}
 use Rattle.candidates.proofs.squared_length.Statement.{statement}
 use Rattle.candidates.proofs.squared_length.Tie as tie
 
@@ -17,7 +17,7 @@ abbrev μ-loop : tie.MeasureT-loop
 μ-loop y shape s₀ n₀ s n = 16 - n
 
 loop-holds : tie.Need-loop-holds Inv-loop μ-loop
-unfolding squareTo
+unfolding sumOver
 loop-holds c = (search needs, refl, search needs)
 
 mul-square : tie.Need-mul-square Inv-loop μ-loop
@@ -42,7 +42,7 @@ loop-less : tie.Need-loop-less Inv-loop μ-loop
 loop-less c = search needs
 
 loop-again : tie.Need-loop-again Inv-loop μ-loop
-unfolding squareTo
+unfolding sumOver
 loop-again c =
     let l = c .before .before .before .loop in
     let a = c .before .before .before .before .args in

@@ -28,9 +28,7 @@ best-place-requires : tie.Need-best-place-requires Inv-loop μ-loop
 best-place-requires c κs = search needs
 
 pair-at-requires : tie.Need-pair-at-requires Inv-loop μ-loop
-pair-at-requires c κs =
-    let p = c .before in
-    best-under _ _ _ _ _ 16 (p .best-place .ensures) (p .before .before .before .before .before .before .pre .0)
+pair-at-requires c κs = best-under _ _ _ _ _ 16 (c .before .best-place .ensures) (c .before .before .before .before .before .before .before .pre .0)
 
 element-copy-out-y : tie.Need-element-copy-out-y Inv-loop μ-loop
 element-copy-out-y c =

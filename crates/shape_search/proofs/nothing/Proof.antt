@@ -2,12 +2,12 @@
 use mathlib.Core.Path.{refl}
 use Prim.Native.Nat.{_-_}
 use Rattle.list_laws.specs.ListOf.{listOf}
-use Rattle.pulse_search.specs.Pulse.{totalTo}
+use Rattle.pulse_search.specs.Pulse.{sumOver}
 use Rattle.shape_search.proofs.nothing.Statement.{statement}
 use Rattle.shape_search.proofs.nothing.Tie as tie
 
 returns : tie.Need-returns
-unfolding listOf totalTo
+unfolding listOf sumOver
 returns c = refl
 
 pub nothing-spec : {M : Type 1} → statement M

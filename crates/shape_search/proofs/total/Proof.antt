@@ -5,7 +5,7 @@ use native.Mathlib.Omega.{arith}
 use native.Mathlib.Numerals.{add-one}
 use borrow.Author.Needs.{needs}
 use lib.ListN.{getD}
-use Rattle.pulse_search.specs.Pulse.{totalTo}
+use Rattle.pulse_search.specs.Pulse.{sumOver, totalTo}
 use Rattle.shape_search.proofs.total.Statement.{statement}
 use Rattle.shape_search.proofs.total.Tie as tie
 
@@ -16,7 +16,7 @@ abbrev μ-loop : tie.MeasureT-loop
 μ-loop y n k₀ i₀ k i = n - i
 
 loop-holds : tie.Need-loop-holds Inv-loop μ-loop
-unfolding totalTo
+unfolding sumOver
 loop-holds c = (search needs, refl, search needs)
 
 element-copy-out-wide : tie.Need-element-copy-out-wide Inv-loop μ-loop
@@ -35,7 +35,7 @@ loop-less : tie.Need-loop-less Inv-loop μ-loop
 loop-less c = search needs
 
 loop-again : tie.Need-loop-again Inv-loop μ-loop
-unfolding totalTo
+unfolding sumOver
 loop-again c =
     let l = c .before .before .before .loop in
     (search needs, rw (add-one, c .wide .ensures .0) (ap (λ (z : ℕ). z + getD (c .before .before .before .before .args .y .now) (l .i) 0) (l .inv .1)), omega (arith, c .wide .ensures .1))

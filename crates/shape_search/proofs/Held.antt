@@ -1,0 +1,145 @@
+-- Each search starts with a pair that belongs to its pulses, so the record does after every pulse; and shapes 3 and 2 are one search. Assumes nothing.
+use mathlib.Core.Path.{_≡_, refl, sym, ap, _∙_, subst}
+use mathlib.Core.Bool.{_||_}
+use mathlib.Core.List.{List}
+use Prim.Native.Nat.{ℕ, zero, suc, _+_, _-_, _*_, _^_, _≤_, _<_}
+use native.Mathlib.Nat.{le-refl, le-trans, le-suc, le-of-eq, mul-le-mul}
+use native.Mathlib.Omega.{arith}
+use lib.Dec.{ltb, nltb→le, lit<, lit≤}
+use lib.IntN.{pos}
+use lib.ListN.{length, getD}
+use lib.Ieee.{Float, nan, binary32, prec, ofBits, ofInt, add, sub, mul}
+use Rattle.float_laws.proofs.Whole.{whole-add, whole-sub, whole-mul}
+use Rattle.list_laws.specs.ListOf.{listOf}
+use Rattle.pulse_search.specs.declared.SearchRecord.{SearchRecord}
+use Rattle.pulse_search.specs.Pulse.{Search, start, onePulse, more, missing, upTo, sumOver, totalTo, squareTo}
+use Rattle.pulse_search.specs.Claims.{Belongs, Held}
+use Rattle.pulse_search.proofs.Sums.{sum-suc, sum-grow, place-le}
+use Rattle.pulse_search.proofs.Laws.{more-suc, more-zero}
+use Rattle.pulse_search.proofs.Held.{far, squares-few, belongs-of, record-held}
+use Rattle.shape_search.specs.Projection.{none, termsOf, joined, joinedTo, projectedOf, someNotFinite, someSeven, totalOverSix, zeros, projection}
+use Rattle.shape_search.specs.Shape.{lowOf, dropped, droppedTo, lowered, shape3, shape2}
+use Rattle.shape_search.specs.Claims.{SearchesHeld, OneSearch}
+use Rattle.shape_search.proofs.Facts.{unless-both, or-right-not, zeros-total, projection-length, projection-total, three-length, three-total, two-length, two-total, low-length, low-total, low-same, low-all, low-sum-all}
+
+-- ---- one place's energy, added and subtracted
+own-square : (w : ℕ) → w ≤ 255 → mul binary32 (ofInt binary32 (pos w)) (ofInt binary32 (pos w)) ≡ ofInt binary32 (pos (w * w))
+own-square w h = let l = far w (le-trans h (lit≤ tt)) in whole-mul binary32 w w l l
+
+module _ (r : SearchRecord) (x : Float) where
+  joined-energy : (q w : ℕ) → q ≤ 65025 → w ≤ 255 → r .energy ≡ ofInt binary32 (pos q) → joined r w x .energy ≡ ofInt binary32 (pos (q + w * w))
+  unfolding joined termsOf
+  joined-energy q zero h l e = e ∙ ap (λ (n : ℕ). ofInt binary32 (pos n)) (plus q)
+    where
+      plus : (q : ℕ) → q ≡ q + 0
+      plus q = omega arith
+  joined-energy q (suc w) h l e =
+      ap (λ (y : Float). add binary32 y (mul binary32 (ofInt binary32 (pos (suc w))) (ofInt binary32 (pos (suc w))))) e
+      ∙ ap (λ (y : Float). add binary32 (ofInt binary32 (pos q)) y) (own-square (suc w) l)
+      ∙ whole-add binary32 q (suc w * suc w) (far q (le-trans h (lit≤ tt))) (far (suc w * suc w) (le-trans (mul-le-mul l l) (lit≤ tt)))
+
+  dropped-energy : (q w : ℕ) → q + w * w ≤ 65025 → w ≤ 255 → r .energy ≡ ofInt binary32 (pos (q + w * w)) → dropped r w x .energy ≡ ofInt binary32 (pos q)
+  unfolding dropped termsOf
+  dropped-energy q zero h l e = e ∙ ap (λ (n : ℕ). ofInt binary32 (pos n)) (plus q)
+    where
+      plus : (q : ℕ) → q + 0 ≡ q
+      plus q = omega arith
+  dropped-energy q (suc w) h l e =
+      ap (λ (y : Float). sub binary32 y (mul binary32 (ofInt binary32 (pos (suc w))) (ofInt binary32 (pos (suc w))))) e
+      ∙ ap (λ (y : Float). sub binary32 (ofInt binary32 (pos (q + suc w * suc w))) y) (own-square (suc w) l)
+      ∙ whole-sub binary32 (q + suc w * suc w) (suc w * suc w) (far (q + suc w * suc w) (le-trans h (lit≤ tt))) (part q (suc w * suc w))
+      ∙ ap (λ (n : ℕ). ofInt binary32 (pos n)) (back q (suc w * suc w))
+    where
+      part : (q s : ℕ) → s ≤ q + s
+      part q s = omega arith
+
+      back : (q s : ℕ) → q + s - s ≡ q
+      back q s = omega arith
+
+-- ---- the projection's
+projected-energy : (a : List Float) (y : List ℕ) (n : ℕ) → totalTo y n ≤ 255 → joinedTo a y n .energy ≡ ofInt binary32 (pos (squareTo y n))
+unfolding joinedTo sumOver ofBits ofInt
+projected-energy a y zero h = refl
+projected-energy a y (suc n) h =
+    joined-energy (joinedTo a y n) (getD a n nan) (squareTo y n) (getD y n 0) (squares-few y n (omega arith)) (omega arith) (projected-energy a y n (omega arith))
+
+zeros-square : squareTo zeros 16 ≡ 0
+unfolding sumOver listOf
+zeros-square = refl
+
+projection-belongs : (a : List Float) → Belongs (projection a)
+unfolding projection totalOverSix
+projection-belongs a =
+    let y = projectedOf a in
+    unless-both Belongs ((someNotFinite a || someSeven a) || totalOverSix a) (start y (joinedTo a y 16)) (start zeros none)
+    (λ t. let u = le-trans (nltb→le 6 (totalTo y 16) (or-right-not (someNotFinite a || someSeven a) (ltb 6 (totalTo y 16)) t)) (lit≤ tt) in belongs-of (start y (joinedTo a y 16)) u (projected-energy a y 16 u))
+    (belongs-of (start zeros none) (le-trans (le-of-eq zeros-total) (lit≤ tt)) (rw zeros-square nothing))
+  where
+    nothing : none .energy ≡ ofInt binary32 (pos 0)
+    nothing = unfold ofBits ofInt in refl
+
+-- ---- and what is left of it without the places from 10 on
+left : (a : List Float) (y : List ℕ) (r : SearchRecord) → totalTo y 16 ≤ 255 → r .energy ≡ ofInt binary32 (pos (squareTo y 16))
+    → (n q : ℕ) → n ≤ 6 → q + squareTo y (10 + n) ≡ squareTo y 16 + squareTo y 10 → droppedTo a y r n .energy ≡ ofInt binary32 (pos q)
+unfolding droppedTo
+left a y r t e zero q l h = e ∙ ap (λ (n : ℕ). ofInt binary32 (pos n)) (omega arith)
+left a y r t e (suc n) q l h =
+    let w = getD y (10 + n) 0 in
+    let i : 10 + n < 16 = omega arith in
+    let s : squareTo y (10 + suc n) ≡ squareTo y (10 + n) + w * w = ap (squareTo y) (next n) ∙ sum-suc (λ w. w * w) y (10 + n) in
+    dropped-energy (droppedTo a y r n) (getD a (10 + n) nan) q w (omega (arith, s, sum-grow (λ w. w * w) y 10 n, squares-few y 16 t)) (le-trans (place-le y (10 + n) 16 i) t)
+    (left a y r t e n (q + w * w) (le-trans (le-suc n) l) (omega (arith, s)))
+  where
+    next : (n : ℕ) → 10 + suc n ≡ suc (10 + n)
+    next n = omega arith
+
+lowered-belongs : (a : List Float) (s : Search) → totalTo (s .pulses) 16 ≤ 255 → Belongs s → Belongs (lowered a s)
+unfolding lowered
+lowered-belongs a s t b =
+    let y = s .pulses in
+    belongs-of (start (lowOf y) (droppedTo a y (s .pair) 6)) (le-trans (le-of-eq (low-sum-all (λ w. w) refl y)) (le-trans (sum-grow (λ w. w) y 10 6) t))
+    (left a y (s .pair) t (b .squares) 6 (squareTo y 10) (le-refl 6) (swap (squareTo y 10) (squareTo y 16)) ∙ ap (λ (n : ℕ). ofInt binary32 (pos n)) (sym (low-sum-all (λ w. w * w) refl y)))
+  where
+    swap : (i j : ℕ) → i + j ≡ j + i
+    swap i j = omega arith
+
+-- ---- the three searches
+module _ (a : List Float) where
+  three-held : Held a 15 (missing 15 6 (projection a)) (projection a)
+  three-held = record-held a 15 (missing 15 6 (projection a)) (projection a) (lit< tt) (projection-length a) (omega (arith, projection-total a)) (projection-belongs a)
+
+  shape3-belongs : Belongs (shape3 a)
+  unfolding shape3
+  shape3-belongs = three-held .placed (missing 15 6 (projection a)) (le-refl _)
+
+  two-held : Held a 15 (missing 15 8 (shape3 a)) (shape3 a)
+  two-held = record-held a 15 (missing 15 8 (shape3 a)) (shape3 a) (lit< tt) (three-length a) (omega (arith, three-total a)) shape3-belongs
+
+  shape2-belongs : Belongs (shape2 a)
+  unfolding shape2
+  shape2-belongs = two-held .placed (missing 15 8 (shape3 a)) (le-refl _)
+
+  one-held : Held a 9 (missing 9 10 (lowered a (shape2 a))) (lowered a (shape2 a))
+  one-held =
+      record-held a 9 (missing 9 10 (lowered a (shape2 a))) (lowered a (shape2 a)) (lit< tt) (low-length a) (omega (arith, low-all a))
+      (lowered-belongs a (shape2 a) (le-trans (le-of-eq (two-total a)) (lit≤ tt)) shape2-belongs)
+
+pub searches-held : SearchesHeld
+searches-held a = record { three = three-held a; two = two-held a; one = one-held a }
+
+-- ---- one search
+more-more : (a : List Float) (last j : ℕ) (s : Search) (k : ℕ) → more a last k (more a last j s) ≡ more a last (k + j) s
+more-more a last j s zero = more-zero a last (more a last j s) ∙ ap (λ (n : ℕ). more a last n s) (none j)
+  where
+    none : (j : ℕ) → j ≡ 0 + j
+    none j = omega arith
+more-more a last j s (suc k) = more-suc a last k (more a last j s) ∙ ap (onePulse a last) (more-more a last j s k) ∙ sym (more-suc a last (k + j) s) ∙ ap (λ (n : ℕ). more a last n s) (one k j)
+  where
+    one : (k j : ℕ) → suc (k + j) ≡ suc k + j
+    one k j = omega arith
+
+pub one-search : OneSearch
+unfolding shape2 shape3
+one-search a =
+    let p = projection a in
+    more-more a 15 (missing 15 6 p) p (missing 15 8 (upTo a 15 6 p)) ∙ ap (λ (n : ℕ). more a 15 n p) (omega (arith, three-total a, projection-total a))
