@@ -93,6 +93,14 @@ pub fn fields() -> impl Iterator<Item = SnsVq> {
 /// Shape 1 with gain 3 and shape 3 with gain 7, which is scanned later.
 pub const TIE: &str = "two candidates at the least distortion";
 
+/// Shapes 3 and 2 put all eight pulses past place 9, and what is left of their correlation is below zero.
+pub const BELOW_ZERO: &str = "shape 1 starts with no pulse, below zero";
+
+/// The input of a corner.
+pub fn corner(name: &str) -> Factors {
+    CORNERS.iter().find(|c| c.0 == name).expect("a corner of the list").1.map(f32::from_bits)
+}
+
 /// Single inputs that random ones seldom or never meet, as f32 bits.
 pub const CORNERS: &[(&str, [u32; 16])] = &[
     ("two code rows at the least distance", [
@@ -107,8 +115,7 @@ pub const CORNERS: &[(&str, [u32; 16])] = &[
         0xc15bb388, 0x411de78c, 0x3f7bed80, 0x3f879150, 0x3feffb20, 0x40be791c, 0xc09a43c4, 0xc12cc818,
         0xc0ec5c24, 0xc125d0ae, 0x40786e00, 0xc04d0c98, 0x41658554, 0xc149d810, 0xc1254fca, 0x41681c98,
     ]),
-    // the searches of shapes 3 and 2 put all eight pulses past place 9, and what is left of their correlation is -0.0000023841858
-    ("shape 1 starts with no pulse, below zero", [
+    (BELOW_ZERO, [
         0x00000000, 0x00000000, 0x40475f34, 0xc0683898, 0x40ccc7ae, 0x00000000, 0x00000000, 0x00000000,
         0x00000000, 0x00000000, 0x00000000, 0x00000000, 0x00000000, 0x00000000, 0x00000000, 0xc038352c,
     ]),

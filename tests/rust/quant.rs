@@ -7,27 +7,48 @@ mod reference;
 mod report;
 
 use calls::{bands_64, quant};
-use inputs::{Factors, CORNERS, TIE};
+use inputs::{corner, Factors, BELOW_ZERO, TIE};
 use lc3::encoder::spectral_noise_shaping::SpectralNoiseShaping;
 use lc3::tables::spec_noise_shape_quant_tables::D;
+use lc3_patched::encoder::spectral_noise_shaping::SpectralNoiseShaping as Patched;
 use reference::{run_quant_later, run_quant_order_3, run_quant_patched};
 use report::Kind;
 
-/// The target is zero from place 10 on: there the Rust leaves set B empty, and is not followed.
-fn no_high_target(x: &Factors) -> bool {
+/// What the pulses are sought for: stage 1's residual, turned by D.
+fn target(x: &Factors) -> Factors {
     let (mut st1, mut r1) = ([0.0; 16], [0.0; 16]);
     SpectralNoiseShaping::sns_quant_stage1(x, &mut st1, &mut r1);
-    (10..16).all(|n| r1.iter().zip(&D).fold(0.0, |t, (r, row)| t + r * row[n]) == 0.0)
+    std::array::from_fn(|n| r1.iter().zip(&D).fold(0.0, |t, (r, row)| t + r * row[n]))
+}
+
+/// The target is zero from place 10 on: there the Rust leaves set B empty, and is not followed.
+fn no_high_target(x: &Factors) -> bool {
+    target(x)[10..].iter().all(|t| *t == 0.0)
 }
 
 /// Two candidates are the best: the copy that takes the later one answers otherwise, and the port takes the first.
 fn first_of_two() -> usize {
-    let corner = CORNERS.iter().find(|(name, _)| *name == TIE).expect("the corner");
-    let x = corner.1.map(f32::from_bits);
+    let x = corner(TIE);
     let (first, later) = (run_quant_patched(&x), run_quant_later(&x));
     let right = first.numbers != later.numbers && quant::ours(&x) == quant::patched(&x);
     let [first, later] = [first, later].map(|q| format!("shape {} with gain {}", q.numbers[2], q.numbers[3]));
     println!("{TIE}: {first} and {later}; the port takes the {}\n", if right { "first" } else { "WRONG ONE, OR THERE IS NO TIE" });
+    !right as usize
+}
+
+/// The corner is what its name says: steps 1 to 5 of the patched Rust's stage 2, by its own `add_unit_pulse`.
+fn starts_below_zero() -> usize {
+    let a = target(&corner(BELOW_ZERO)).map(f32::abs);
+    let factor = 5.0 / a.iter().fold(0.0, |sum, a| sum + a);
+    let mut y = a.map(|a| (a * factor).floor() as i32);
+    let terms = |n: usize, y: &[i32; 16]| (y[n] as f32 * a[n], (y[n] * y[n]) as f32);
+    let (mut c, mut e) = (0..16).fold((0.0, 0.0), |(c, e), n| (c + terms(n, &y).0, e + terms(n, &y).1));
+    let k = y.iter().sum::<i32>() as usize;
+    Patched::add_unit_pulse(&a, 16, k, 6, &mut y, &mut c, &mut e);
+    Patched::add_unit_pulse(&a, 16, 6, 8, &mut y, &mut c, &mut e);
+    let (c, e) = (10..16).fold((c, e), |(c, e), n| (c - terms(n, &y).0, e - terms(n, &y).1));
+    let right = y[..10] == [0; 10] && e == 0.0 && c < 0.0;
+    println!("{BELOW_ZERO}: correlation {c}, energy {e}{}\n", if right { "" } else { ": NOT AS NAMED" });
     !right as usize
 }
 
@@ -45,6 +66,7 @@ fn main() {
             + report::compare("order 5, the Rust with and without", quant::patched, quant::order_3, &handed)
             + report::compare("order 3, the Rust with and without", quant::order_3, quant::rust, &last)
             + first_of_two()
+            + starts_below_zero()
             + report::compare("interpolation", bands_64::ours, bands_64::rust, &wide),
     )
 }

@@ -3,4 +3,5 @@ pub mod Shapes
 pub mod Facts
 pub mod Held
 pub mod Sized
+pub mod Corner
 pub mod Claims

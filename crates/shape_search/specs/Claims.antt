@@ -1,16 +1,17 @@
--- What is shown of the shapes. Definitions only; the proofs are in proofs/Claims, proofs/Held and proofs/Sized.
+-- What is shown of the shapes. Definitions only; the proofs are in proofs/Claims, proofs/Held, proofs/Corner and proofs/Sized.
 use mathlib.Core.Path.{_≡_}
 use mathlib.Core.List.{List, [], _∷_}
 use Prim.Native.Nat.{ℕ, _≤_, _<_}
 use lib.Dec.{T}
+use lib.IntN.{pos, negsuc}
 use lib.ListN.{length}
-use lib.Ieee.{Float, binary32, mul}
+use lib.Ieee.{Float, binary32, ofInt, mul}
 use Rattle.float_laws.specs.Bounded.{Bounded}
 use Rattle.float_laws.specs.Kind.{finite}
 use Rattle.list_laws.specs.ListOf.{listOf}
-use Rattle.pulse_search.specs.Pulse.{square, pairAt, Search, more, missing, upTo, totalTo, squareTo}
+use Rattle.pulse_search.specs.Pulse.{square, pairAt, Search, start, more, missing, upTo, totalTo, squareTo}
 use Rattle.pulse_search.specs.Claims.{Held}
-use Rattle.shape_search.specs.Projection.{projection}
+use Rattle.shape_search.specs.Projection.{nought, zeros, projection}
 use Rattle.shape_search.specs.Shape.{shape3, shape2, lowered, shapePulses}
 
 -- each shape's pulses add up to exactly its count, for every a: ten and one, ten, eight, six
@@ -43,6 +44,16 @@ SearchesHeld = (a : List Float) → Each (Held a) a
 -- Shapes 3 and 2 are one search from the projection on: nothing is lost where one shape hands over to the next.
 abbrev pub OneSearch : Type 0
 OneSearch = (a : List Float) → shape2 a ≡ upTo a 15 8 (projection a)
+
+-- sixteen whole targets for which shapes 3 and 2 put all eight pulses past place 9
+abbrev pub highTargets : List Float
+highTargets =
+    let w : ℕ → Float = λ n. ofInt binary32 (pos n) in
+    w 0 ∷ w 0 ∷ w 0 ∷ w 0 ∷ w 0 ∷ w 0 ∷ w 0 ∷ w 0 ∷ w 0 ∷ w 0 ∷ w 1647114 ∷ w 3804662 ∷ w 0 ∷ w 4169833 ∷ w 0 ∷ w 3947248 ∷ []
+
+-- A correlation may be below zero: with every pulse dropped the energy is 0 again, and what the subtractions leave of a rounded sum is -1.0.
+abbrev pub RoundingLeft : Type 0
+RoundingLeft = lowered highTargets (shape2 highTargets) ≡ start zeros (record { correlation = ofInt binary32 (negsuc 0); energy = nought })
 
 -- while k single pulses are sought over places 0 to last, every product that is compared is finite
 abbrev pub Compares : List Float → ℕ → ℕ → Search → Type 0
