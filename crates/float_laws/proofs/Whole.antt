@@ -44,10 +44,6 @@ unfolding ofInt
 int-neg f k = round-neg f (suc k) 1
 
 -- ---- whole numbers are added, subtracted and multiplied exactly
-pub whole-value : (f : Format) (n : ℕ) → n ≤ 2 ^ prec f → HasValue (ofInt f (pos n)) false n 1
-unfolding ofInt
-whole-value f n h = round-whole f false n h
-
 clash : true ≡ false → ⊥
 clash e = subst T e tt
 

@@ -2,17 +2,16 @@
 use mathlib.Core.Path.{_≡_, refl, sym, ap, _∙_, subst}
 use mathlib.Core.List.{List}
 use Prim.Native.Nat.{ℕ, zero, suc, _+_, _*_, _^_, _≤_, _<_}
-use native.Mathlib.Nat.{le-trans, le-suc, le-of-eq, mul-le-mul}
+use native.Mathlib.Nat.{le-trans, le-of-eq, mul-le-mul}
 use native.Mathlib.Omega.{arith}
-use lib.Dec.{T, lit≤}
+use lib.Dec.{lit≤}
 use lib.IntN.{pos}
-use lib.ListN.{length, getD, set, length-set}
-use lib.Ieee.{Float, nan, binary32, prec, ofBits, ofInt, add, mul, le}
+use lib.ListN.{length, getD, set}
+use lib.Ieee.{Float, nan, binary32, prec, ofBits, ofInt, add, mul}
 use Rattle.float_laws.proofs.Size.{whole-exact}
 use Rattle.float_laws.proofs.Whole.{whole-add, whole-mul, whole-le}
-use Rattle.pulse_search.specs.declared.SearchRecord.{SearchRecord}
 use Rattle.pulse_search.specs.Pulse.{one, two, amount, pairAt, bestTo, Search, start, onePulse, more, totalTo, squareTo}
-use Rattle.pulse_search.specs.Claims.{Belongs, TriedBelong, Held, RecordHeld, placeOf, grown, orderedSum, Ordered, RecordOrdered}
+use Rattle.pulse_search.specs.Claims.{Belongs, TriedBelong, Held, RecordHeld, placeOf, grown, orderedSum, RecordOrdered}
 use Rattle.pulse_search.proofs.Sums.{place-le, total-one, square-more, square-low, square-high}
 use Rattle.pulse_search.proofs.Laws.{best-le, more-suc, more-zero, more-length, more-total}
 
@@ -81,13 +80,19 @@ module _ (a : List Float) (last : ℕ) (m : last < 16) where
       rw more-suc
       (one-belongs (more a last i s) (more-length a last i s ∙ l) (omega (arith, more-total a last 16 m i s (le-of-eq (sym l)))) (more-belongs i s l (omega arith) b))
 
+  more-tried : (i : ℕ) (s : Search) → length (s .pulses) ≡ 16 → totalTo (s .pulses) 16 + suc i ≤ 255 → Belongs s → TriedBelong a (more a last i s)
+  more-tried i s l h b =
+      tried-belong a (more a last i s) (more-length a last i s ∙ l) (omega (arith, more-total a last 16 m i s (le-of-eq (sym l)))) (more-belongs i s l (omega arith) b)
+
   held : (k : ℕ) (s : Search) → length (s .pulses) ≡ 16 → totalTo (s .pulses) 16 + k ≤ 255 → Belongs s → Held a last k s
   held k s l h b = record {
     placed = λ i j. more-belongs i s l (omega arith) b;
-    tried =
-        λ i j.
-        tried-belong a (more a last i s) (more-length a last i s ∙ l) (omega (arith, more-total a last 16 m i s (le-of-eq (sym l)))) (more-belongs i s l (omega arith) b);
+    tried = λ i j. more-tried i s l (omega arith) b;
+    compared = λ i j n u. more-tried i s l (omega arith) b n u .least (one-stands (more a last i s .pulses) n u (subst (λ (q : ℕ). n < q) (sym (more-length a last i s ∙ l)) u));
   }
+    where
+      one-stands : (y : List ℕ) (n : ℕ) → n < 16 → n < length y → 1 ≤ totalTo (set y n (getD y n 0 + 1)) 16
+      one-stands y n u v = omega (arith, total-one y n 16 u v)
 
 pub record-held : RecordHeld
 record-held a last k s m l h b = held a last m k s l h b

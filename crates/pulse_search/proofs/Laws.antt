@@ -54,6 +54,17 @@ pub more-zero : (a : List Float) (m : ℕ) (s : Search) → more a m 0 s ≡ s
 unfolding more
 more-zero a m s = refl
 
+-- j pulses and then k
+pub more-more : (a : List Float) (last j : ℕ) (s : Search) (k : ℕ) → more a last k (more a last j s) ≡ more a last (k + j) s
+more-more a last j s zero = more-zero a last (more a last j s) ∙ ap (λ (n : ℕ). more a last n s) (none j)
+  where
+    none : (j : ℕ) → j ≡ 0 + j
+    none j = omega arith
+more-more a last j s (suc k) = more-suc a last k (more a last j s) ∙ ap (onePulse a last) (more-more a last j s k) ∙ sym (more-suc a last (k + j) s) ∙ ap (λ (n : ℕ). more a last n s) (one k j)
+  where
+    one : (k j : ℕ) → suc (k + j) ≡ suc k + j
+    one k j = omega arith
+
 one-pulses : (a : List Float) (m : ℕ) (s : Search) → onePulse a m s .pulses ≡ set (s .pulses) (bestTo a (s .pulses) (s .pair) m) (getD (s .pulses) (bestTo a (s .pulses) (s .pair) m) 0 + 1)
 unfolding onePulse
 one-pulses a m s = refl

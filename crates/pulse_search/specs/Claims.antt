@@ -20,10 +20,12 @@ pub record Belongs (s : Search) : Type 0 where
 abbrev pub TriedBelong : List Float → Search → Type 0
 TriedBelong a s = (n : ℕ) → n < 16 → Belongs (start (set (s .pulses) n (getD (s .pulses) n 0 + 1)) (pairAt a (s .pulses) (s .pair) n))
 
--- from the start on and after every pulse of k single pulses over places 0 to last
+-- From the start on and after every pulse of k single pulses over places 0 to last. So every energy that is compared is at least 1, as it
+-- must be where quotients are compared by cross-multiplying.
 pub record Held (a : List Float) (last k : ℕ) (s : Search) : Type 0 where
   pub placed : (i : ℕ) → i ≤ k → Belongs (more a last i s)
   pub tried : (i : ℕ) → i < k → TriedBelong a (more a last i s)
+  pub compared : (i : ℕ) → i < k → (n : ℕ) → n < 16 → T (le one (pairAt a (more a last i s .pulses) (more a last i s .pair) n .energy))
 
 -- A pair that belongs to the pulses belongs to them from then on: for every a, while the pulses fit a byte.
 abbrev pub RecordHeld : Type 0

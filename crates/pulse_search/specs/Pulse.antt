@@ -75,7 +75,7 @@ totalTo y n = sumOver (λ w. w) y n
 abbrev pub squareTo : List ℕ → ℕ → ℕ
 squareTo y n = sumOver (λ w. w * w) y n
 
--- how many pulses places 0 to last have to come to k
+-- how many pulses are missing up to k on places 0 to last
 abbrev pub missing : ℕ → ℕ → Search → ℕ
 missing last k s = k - totalTo (s .pulses) (suc last)
 

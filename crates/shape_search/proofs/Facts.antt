@@ -7,7 +7,7 @@ use native.Mathlib.Nat.{le-refl, le-trans, le-of-eq}
 use native.Mathlib.Omega.{arith}
 use borrow.Author.Tests.{lt-ltb, le-ltb}
 use lib.Dec.{T, ltb, nltb→le, lit<, lit≤}
-use lib.ListN.{length, getD, set, length-set}
+use lib.ListN.{length, getD, length-set}
 use lib.Ieee.{Float, nan, lt}
 use Rattle.float_laws.specs.Scan.{choose}
 use Rattle.list_laws.specs.ListOf.{listOf}

@@ -1,26 +1,26 @@
 -- Each search starts with a pair that belongs to its pulses, so the record does after every pulse; and shapes 3 and 2 are one search. Assumes nothing.
-use mathlib.Core.Path.{_≡_, refl, sym, ap, _∙_, subst}
+use mathlib.Core.Path.{_≡_, refl, sym, ap, _∙_}
 use mathlib.Core.Bool.{_||_}
 use mathlib.Core.List.{List}
-use Prim.Native.Nat.{ℕ, zero, suc, _+_, _-_, _*_, _^_, _≤_, _<_}
+use Prim.Native.Nat.{ℕ, zero, suc, _+_, _-_, _*_, _≤_, _<_}
 use native.Mathlib.Nat.{le-refl, le-trans, le-suc, le-of-eq, mul-le-mul}
 use native.Mathlib.Omega.{arith}
 use lib.Dec.{ltb, nltb→le, lit<, lit≤}
 use lib.IntN.{pos}
-use lib.ListN.{length, getD}
-use lib.Ieee.{Float, nan, binary32, prec, ofBits, ofInt, add, sub, mul}
+use lib.ListN.{getD}
+use lib.Ieee.{Float, nan, binary32, ofBits, ofInt, add, sub, mul}
 use Rattle.float_laws.proofs.Whole.{whole-add, whole-sub, whole-mul}
 use Rattle.list_laws.specs.ListOf.{listOf}
 use Rattle.pulse_search.specs.declared.SearchRecord.{SearchRecord}
-use Rattle.pulse_search.specs.Pulse.{Search, start, onePulse, more, missing, upTo, sumOver, totalTo, squareTo}
+use Rattle.pulse_search.specs.Pulse.{Search, start, more, missing, upTo, sumOver, totalTo, squareTo}
 use Rattle.pulse_search.specs.Claims.{Belongs, Held}
 use Rattle.pulse_search.proofs.Sums.{sum-suc, sum-grow, place-le}
-use Rattle.pulse_search.proofs.Laws.{more-suc, more-zero}
+use Rattle.pulse_search.proofs.Laws.{more-more}
 use Rattle.pulse_search.proofs.Held.{far, squares-few, belongs-of, record-held}
 use Rattle.shape_search.specs.Projection.{none, termsOf, joined, joinedTo, projectedOf, someNotFinite, someSeven, totalOverSix, zeros, projection}
 use Rattle.shape_search.specs.Shape.{lowOf, dropped, droppedTo, lowered, shape3, shape2}
 use Rattle.shape_search.specs.Claims.{SearchesHeld, OneSearch}
-use Rattle.shape_search.proofs.Facts.{unless-both, or-right-not, zeros-total, projection-length, projection-total, three-length, three-total, two-length, two-total, low-length, low-total, low-same, low-all, low-sum-all}
+use Rattle.shape_search.proofs.Facts.{unless-both, or-right-not, zeros-total, projection-length, projection-total, three-length, three-total, two-total, low-length, low-all, low-sum-all}
 
 -- ---- one place's energy, added and subtracted
 own-square : (w : ℕ) → w ≤ 255 → mul binary32 (ofInt binary32 (pos w)) (ofInt binary32 (pos w)) ≡ ofInt binary32 (pos (w * w))
@@ -128,16 +128,6 @@ pub searches-held : SearchesHeld
 searches-held a = record { three = three-held a; two = two-held a; one = one-held a }
 
 -- ---- one search
-more-more : (a : List Float) (last j : ℕ) (s : Search) (k : ℕ) → more a last k (more a last j s) ≡ more a last (k + j) s
-more-more a last j s zero = more-zero a last (more a last j s) ∙ ap (λ (n : ℕ). more a last n s) (none j)
-  where
-    none : (j : ℕ) → j ≡ 0 + j
-    none j = omega arith
-more-more a last j s (suc k) = more-suc a last k (more a last j s) ∙ ap (onePulse a last) (more-more a last j s k) ∙ sym (more-suc a last (k + j) s) ∙ ap (λ (n : ℕ). more a last n s) (one k j)
-  where
-    one : (k j : ℕ) → suc (k + j) ≡ suc k + j
-    one k j = omega arith
-
 pub one-search : OneSearch
 unfolding shape2 shape3
 one-search a =

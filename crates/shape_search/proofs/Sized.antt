@@ -9,7 +9,7 @@ use native.Mathlib.Omega.{arith}
 use lib.Dec.{T, ltb, nltb→le, lit<, lit≤}
 use lib.IntN.{pos}
 use lib.ListN.{length, getD, set}
-use lib.Ieee.{Float, nan, binary32, ofBits, ofInt, round, add, mul}
+use lib.Ieee.{Float, nan, binary32, ofBits, ofInt, round, mul}
 use Rattle.float_laws.specs.Kind.{finite}
 use Rattle.float_laws.specs.Bounded.{Bounded}
 use Rattle.float_laws.specs.Size.{Within, exact}
@@ -24,7 +24,7 @@ use Rattle.pulse_search.proofs.Held.{far, squares-few}
 use Rattle.shape_search.specs.Projection.{none, zeros, projectedOf, termsOf, joined, joinedTo, someNotFinite, someSeven, totalOverSix, projection}
 use Rattle.shape_search.specs.Shape.{dropped, droppedTo, lowered, shape3, shape2}
 use Rattle.shape_search.specs.Claims.{Compares, SearchesFinite}
-use Rattle.shape_search.proofs.Facts.{unless-both, or-right-not, projection-length, projection-total, three-length, three-total, two-total, low-length, low-total, low-same, low-all}
+use Rattle.shape_search.proofs.Facts.{unless-both, or-right-not, projection-length, projection-total, three-length, three-total, two-total, low-length, low-all}
 use Rattle.shape_search.proofs.Held.{searches-held}
 
 -- a correlation of at most 16384 for each of j pulses
