@@ -18,8 +18,8 @@ use Rattle.pulse_search.proofs.Sums.{sum-suc, sum-grow, place-le}
 use Rattle.pulse_search.proofs.Laws.{more-more}
 use Rattle.pulse_search.proofs.Held.{far, squares-few, belongs-of, record-held}
 use Rattle.shape_search.specs.Projection.{none, termsOf, joined, joinedTo, projectedOf, someNotFinite, someSeven, totalOverSix, zeros, projection}
-use Rattle.shape_search.specs.Shape.{lowOf, dropped, droppedTo, lowered, shape3, shape2}
-use Rattle.shape_search.specs.Claims.{SearchesHeld, OneSearch}
+use Rattle.shape_search.specs.Shape.{lowOf, dropped, droppedTo, lowered, shape3, shape2, shape1}
+use Rattle.shape_search.specs.Claims.{SearchesHeld, ShapesHeld, OneSearch}
 use Rattle.shape_search.proofs.Facts.{unless-both, or-right-not, zeros-total, projection-length, projection-total, three-length, three-total, two-total, low-length, low-all, low-sum-all}
 
 -- ---- one place's energy, added and subtracted
@@ -124,8 +124,15 @@ module _ (a : List Float) where
       record-held a 9 (missing 9 10 (lowered a (shape2 a))) (lowered a (shape2 a)) (lit< tt) (low-length a) (omega (arith, low-all a))
       (lowered-belongs a (shape2 a) (le-trans (le-of-eq (two-total a)) (lit≤ tt)) shape2-belongs)
 
+  shape1-belongs : Belongs (shape1 a)
+  unfolding shape1
+  shape1-belongs = one-held .placed (missing 9 10 (lowered a (shape2 a))) (le-refl _)
+
 pub searches-held : SearchesHeld
 searches-held a = record { three = three-held a; two = two-held a; one = one-held a }
+
+pub shapes-held : ShapesHeld
+shapes-held a = (shape3-belongs a, (shape2-belongs a, shape1-belongs a))
 
 -- ---- one search
 pub one-search : OneSearch

@@ -10,9 +10,9 @@ use Rattle.float_laws.specs.Bounded.{Bounded}
 use Rattle.float_laws.specs.Kind.{finite}
 use Rattle.list_laws.specs.ListOf.{listOf}
 use Rattle.pulse_search.specs.Pulse.{square, pairAt, Search, start, more, missing, upTo, totalTo, squareTo}
-use Rattle.pulse_search.specs.Claims.{Held}
+use Rattle.pulse_search.specs.Claims.{Belongs, Held}
 use Rattle.shape_search.specs.Projection.{nought, zeros, projection}
-use Rattle.shape_search.specs.Shape.{shape3, shape2, lowered, shapePulses}
+use Rattle.shape_search.specs.Shape.{shape3, shape2, lowered, shape1, shapePulses}
 
 -- each shape's pulses add up to exactly its count, for every a: ten and one, ten, eight, six
 abbrev pub Totals : Type 0
@@ -40,6 +40,10 @@ pub record Each (P : ℕ → ℕ → Search → Type 0) (a : List Float) : Type 
 -- From its start on and after every pulse of every search, the record belongs to the pulses placed: for every a.
 abbrev pub SearchesHeld : Type 0
 SearchesHeld = (a : List Float) → Each (Held a) a
+
+-- So each shape that is searched ends with the pair of its own pulses.
+abbrev pub ShapesHeld : Type 0
+ShapesHeld = (a : List Float) → Belongs (shape3 a) × (Belongs (shape2 a) × Belongs (shape1 a))
 
 -- Shapes 3 and 2 are one search from the projection on: nothing is lost where one shape hands over to the next.
 abbrev pub OneSearch : Type 0

@@ -1,7 +1,7 @@
 -- The demands of specs/Demands.antt, each theorem from the file that shows it. Assumes nothing.
 use Rattle.numbering.proofs.Claims.{claim}
 use Rattle.pulse_search.proofs.Held.{record-ordered}
-use Rattle.shape_search.proofs.Held.{searches-held, one-search}
+use Rattle.shape_search.proofs.Held.{searches-held, shapes-held, one-search}
 use Rattle.candidates.proofs.Choices.{choices-are, all-tried}
 use Rattle.synthesis.proofs.Claims.{within-64}
 use Rattle.sns.specs.Demands.{Answered, Kept, Taken, Numbered, Unbeaten}
@@ -67,6 +67,7 @@ unbeaten =
       decodes-again = encode.decodes-again;
       factors-alone = encode.factors-alone;
       searches-held = searches-held;
+      shapes-held = shapes-held;
       one-search = one-search;
       record-ordered = record-ordered;
     }

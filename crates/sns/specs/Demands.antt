@@ -58,5 +58,6 @@ pub record Unbeaten : Type 0 where
   pub decodes-again : encode.DecodesAgain
   pub factors-alone : encode.FactorsAlone
   pub searches-held : shapes.SearchesHeld
+  pub shapes-held : shapes.ShapesHeld
   pub one-search : shapes.OneSearch
   pub record-ordered : pulses.RecordOrdered
