@@ -1,6 +1,6 @@
 //! The port's encoder beside `run_quant` of the Rust with the patches of the orders, every field and the sixteen factors; what each
-//! order changes, from patched copy to patched copy, down to the Rust as it is; the first of two best candidates; and interpolation
-//! to 64 bands.
+//! order changes, from patched copy to patched copy, down to the Rust as it is; the first of two best candidates; a corner that is
+//! what its name says; and interpolation to 64 bands.
 mod calls;
 mod inputs;
 mod reference;
