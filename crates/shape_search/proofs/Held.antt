@@ -17,7 +17,7 @@ use Rattle.pulse_search.specs.Claims.{Belongs, Held}
 use Rattle.pulse_search.proofs.Sums.{sum-suc, sum-grow, place-le}
 use Rattle.pulse_search.proofs.Laws.{more-more}
 use Rattle.pulse_search.proofs.Held.{far, squares-few, belongs-of, record-held}
-use Rattle.shape_search.specs.Projection.{none, termsOf, joined, joinedTo, projectedOf, someNotFinite, someSeven, totalOverSix, zeros, projection}
+use Rattle.shape_search.specs.Projection.{none, termsOf, withTerms, joined, joinedTo, projectedOf, someNotFinite, someSeven, totalOverSix, zeros, projection}
 use Rattle.shape_search.specs.Shape.{lowOf, dropped, droppedTo, lowered, shape3, shape2, shape1}
 use Rattle.shape_search.specs.Claims.{SearchesHeld, ShapesHeld, OneSearch}
 use Rattle.shape_search.proofs.Facts.{unless-both, or-right-not, zeros-total, projection-length, projection-total, three-length, three-total, two-total, low-length, low-all, low-sum-all}
@@ -26,35 +26,34 @@ use Rattle.shape_search.proofs.Facts.{unless-both, or-right-not, zeros-
 own-square : (w : ℕ) → w ≤ 255 → mul binary32 (ofInt binary32 (pos w)) (ofInt binary32 (pos w)) ≡ ofInt binary32 (pos (w * w))
 own-square w h = let l = far w (le-trans h (lit≤ tt)) in whole-mul binary32 w w l l
 
-module _ (r : SearchRecord) (x : Float) where
-  joined-energy : (q w : ℕ) → q ≤ 65025 → w ≤ 255 → r .energy ≡ ofInt binary32 (pos q) → joined r w x .energy ≡ ofInt binary32 (pos (q + w * w))
-  unfolding joined termsOf
-  joined-energy q zero h l e = e ∙ ap (λ (n : ℕ). ofInt binary32 (pos n)) (plus q)
-    where
-      plus : (q : ℕ) → q ≡ q + 0
-      plus q = omega arith
-  joined-energy q (suc w) h l e =
-      ap (λ (y : Float). add binary32 y (mul binary32 (ofInt binary32 (pos (suc w))) (ofInt binary32 (pos (suc w))))) e
-      ∙ ap (λ (y : Float). add binary32 (ofInt binary32 (pos q)) y) (own-square (suc w) l)
-      ∙ whole-add binary32 q (suc w * suc w) (far q (le-trans h (lit≤ tt))) (far (suc w * suc w) (le-trans (mul-le-mul l l) (lit≤ tt)))
+-- p by the operation with the square of w is q
+terms-energy : (op : Float → Float → Float) (r : SearchRecord) (x : Float) (p q w : ℕ) → w ≤ 255 → (w ≡ 0 → p ≡ q) → op (ofInt binary32 (pos p)) (ofInt binary32 (pos (w * w))) ≡ ofInt binary32 (pos q)
+    → r .energy ≡ ofInt binary32 (pos p) → withTerms op r w x .energy ≡ ofInt binary32 (pos q)
+unfolding withTerms termsOf
+terms-energy op r x p q zero h z o e = e ∙ ap (λ (n : ℕ). ofInt binary32 (pos n)) (z refl)
+terms-energy op r x p q (suc w) h z o e =
+    ap (λ (y : Float). op y (mul binary32 (ofInt binary32 (pos (suc w))) (ofInt binary32 (pos (suc w))))) e
+    ∙ ap (λ (y : Float). op (ofInt binary32 (pos p)) y) (own-square (suc w) h)
+    ∙ o
 
-  dropped-energy : (q w : ℕ) → q + w * w ≤ 65025 → w ≤ 255 → r .energy ≡ ofInt binary32 (pos (q + w * w)) → dropped r w x .energy ≡ ofInt binary32 (pos q)
-  unfolding dropped termsOf
-  dropped-energy q zero h l e = e ∙ ap (λ (n : ℕ). ofInt binary32 (pos n)) (plus q)
-    where
-      plus : (q : ℕ) → q + 0 ≡ q
-      plus q = omega arith
-  dropped-energy q (suc w) h l e =
-      ap (λ (y : Float). sub binary32 y (mul binary32 (ofInt binary32 (pos (suc w))) (ofInt binary32 (pos (suc w))))) e
-      ∙ ap (λ (y : Float). sub binary32 (ofInt binary32 (pos (q + suc w * suc w))) y) (own-square (suc w) l)
-      ∙ whole-sub binary32 (q + suc w * suc w) (suc w * suc w) (far (q + suc w * suc w) (le-trans h (lit≤ tt))) (part q (suc w * suc w))
-      ∙ ap (λ (n : ℕ). ofInt binary32 (pos n)) (back q (suc w * suc w))
-    where
-      part : (q s : ℕ) → s ≤ q + s
-      part q s = omega arith
+nought-square : (w : ℕ) → w ≡ 0 → w * w ≡ 0
+nought-square w e = rw e
 
-      back : (q s : ℕ) → q + s - s ≡ q
-      back q s = omega arith
+joined-energy : (r : SearchRecord) (x : Float) (q w : ℕ) → q ≤ 65025 → w ≤ 255 → r .energy ≡ ofInt binary32 (pos q) → joined r w x .energy ≡ ofInt binary32 (pos (q + w * w))
+joined-energy r x q w h l =
+    terms-energy (add binary32) r x q (q + w * w) w l (λ z. omega (arith, nought-square w z))
+    (whole-add binary32 q (w * w) (far q (le-trans h (lit≤ tt))) (far (w * w) (le-trans (mul-le-mul l l) (lit≤ tt))))
+
+dropped-energy : (r : SearchRecord) (x : Float) (q w : ℕ) → q + w * w ≤ 65025 → w ≤ 255 → r .energy ≡ ofInt binary32 (pos (q + w * w)) → dropped r w x .energy ≡ ofInt binary32 (pos q)
+dropped-energy r x q w h l =
+    terms-energy (sub binary32) r x (q + w * w) q w l (λ z. omega (arith, nought-square w z))
+    (whole-sub binary32 (q + w * w) (w * w) (far (q + w * w) (le-trans h (lit≤ tt))) (part q (w * w)) ∙ ap (λ (n : ℕ). ofInt binary32 (pos n)) (back q (w * w)))
+  where
+    part : (q s : ℕ) → s ≤ q + s
+    part q s = omega arith
+
+    back : (q s : ℕ) → q + s - s ≡ q
+    back q s = omega arith
 
 -- ---- the projection's
 projected-energy : (a : List Float) (y : List ℕ) (n : ℕ) → totalTo y n ≤ 255 → joinedTo a y n .energy ≡ ofInt binary32 (pos (squareTo y n))

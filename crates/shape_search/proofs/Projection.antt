@@ -8,7 +8,7 @@ use native.Mathlib.Omega.{arith}
 use borrow.Author.Tests.{lt-ltb, le-ltb, not-false}
 use lib.Dec.{T}
 use lib.ListN.{getD}
-use lib.Ieee.{Float, nan, inf, fin, binary32, ofBits, add, mul, div, lt, le}
+use lib.Ieee.{Float, nan, inf, fin, binary32, ofBits, mul, div, lt, le}
 use Rattle.float_laws.specs.Absolute.{absOf}
 use Rattle.float_laws.specs.Kind.{finite}
 use Rattle.float_laws.specs.Floor.{floorOf}
@@ -19,7 +19,7 @@ use Rattle.list_laws.specs.Some.{someBelow}
 use Rattle.list_laws.proofs.Some.{some-none, some-or}
 use Rattle.pulse_search.specs.declared.SearchRecord.{SearchRecord}
 use Rattle.pulse_search.specs.Pulse.{start, totalTo}
-use Rattle.shape_search.specs.Projection.{five, seven, factorOf, productAt, projectedOf, termsOf, joined, none, joinedTo, someNotFinite, someSeven, totalOverSix, zeros, unless, projection, Absolutes, AllBelowSeven, begunOf}
+use Rattle.shape_search.specs.Projection.{five, seven, factorOf, productAt, projectedOf, termsOf, withTerms, none, joinedTo, someNotFinite, someSeven, totalOverSix, zeros, unless, projection, Absolutes, AllBelowSeven, begunOf}
 use Rattle.shape_search.specs.declared.Start.{Start}
 
 -- ---- no product has a minus sign
@@ -94,16 +94,16 @@ kept-whole a e h =
     ∙ ap (λ (b : Bool). unless b (start (projectedOf a) (joinedTo a (projectedOf a) 16)) (start zeros none)) (le-ltb 6 (totalTo (projectedOf a) 16) h))
 
 -- ---- a place's terms
-pub joined-zero : (r : SearchRecord) (w : ℕ) (x : Float) → w ≡ 0 → r ≡ joined r w x
-unfolding joined
-joined-zero r zero x e = refl
-joined-zero r (suc w) x e = absurd (omega arith)
+pub terms-zero : (op : Float → Float → Float) (r : SearchRecord) (w : ℕ) (x : Float) → w ≡ 0 → r ≡ withTerms op r w x
+unfolding withTerms
+terms-zero op r zero x e = refl
+terms-zero op r (suc w) x e = absurd (omega arith)
 
-pub joined-some : (r : SearchRecord) (w : ℕ) (x : Float) → (w ≡ 0 → ⊥)
-    → _≡_ {A = SearchRecord} (record { correlation = add binary32 (r .correlation) (termsOf w x .correlation); energy = add binary32 (r .energy) (termsOf w x .energy) }) (joined r w x)
-unfolding joined
-joined-some r zero x h = absurd (h refl)
-joined-some r (suc w) x h = refl
+pub terms-some : (op : Float → Float → Float) (r : SearchRecord) (w : ℕ) (x : Float) → (w ≡ 0 → ⊥)
+    → _≡_ {A = SearchRecord} (record { correlation = op (r .correlation) (termsOf w x .correlation); energy = op (r .energy) (termsOf w x .energy) }) (withTerms op r w x)
+unfolding withTerms
+terms-some op r zero x h = absurd (h refl)
+terms-some op r (suc w) x h = refl
 
 -- ---- the code's tests, in its words
 module _ (a : List Float) (f : Float) (e : f ≡ factorOf a) where

@@ -1,31 +1,20 @@
 -- One step more of each loop over the shapes' places. Assumes nothing.
-use mathlib.Core.Path.{_≡_, refl, sym, ap, _∙_}
+use mathlib.Core.Path.{_≡_, sym, ap, _∙_}
 use mathlib.Core.Bool.{Bool, true, false}
 use mathlib.Core.List.{List, [], _∷_}
-use Prim.Native.Nat.{ℕ, zero, suc, _+_, _-_, _≤_, _<_}
+use Prim.Native.Nat.{ℕ, suc, _+_, _-_, _≤_, _<_}
 use native.Mathlib.Omega.{arith}
 use native.Mathlib.Numerals.{add-one}
 use lib.ListN.{length, getD, set}
-use lib.Ieee.{Float, nan, binary32, sub, lt}
+use lib.Ieee.{Float, nan, lt}
 use Rattle.float_laws.specs.Scan.{choose}
 use Rattle.list_laws.specs.ListOf.{listOf}
 use Rattle.pulse_search.specs.declared.SearchRecord.{SearchRecord}
 use Rattle.pulse_search.specs.Pulse.{Search, start, more, totalTo, upTo}
-use Rattle.shape_search.specs.Projection.{termsOf, projection, begunOf}
+use Rattle.shape_search.specs.Projection.{projection, begunOf}
 use Rattle.shape_search.specs.declared.Start.{Start}
-use Rattle.shape_search.specs.Shape.{shape3, shape2, lowOf, dropped, droppedTo, lowered, shape1, largestTo, shape0, shapePulses}
+use Rattle.shape_search.specs.Shape.{shape3, shape2, lowOf, droppedTo, lowered, shape1, largestTo, shape0, shapePulses}
 use Rattle.shape_search.proofs.Facts.{three-total}
-
-pub dropped-zero : (r : SearchRecord) (w : ℕ) (x : Float) → w ≡ 0 → r ≡ dropped r w x
-unfolding dropped
-dropped-zero r zero x e = refl
-dropped-zero r (suc w) x e = absurd (omega arith)
-
-pub dropped-some : (r : SearchRecord) (w : ℕ) (x : Float) → (w ≡ 0 → ⊥)
-    → _≡_ {A = SearchRecord} (record { correlation = sub binary32 (r .correlation) (termsOf w x .correlation); energy = sub binary32 (r .energy) (termsOf w x .energy) }) (dropped r w x)
-unfolding dropped
-dropped-some r zero x h = absurd (h refl)
-dropped-some r (suc w) x h = refl
 
 -- ---- the largest place from 10 on
 pub largest-move : (a : List Float) (n b : ℕ) → b ≡ largestTo a n → lt (getD a b nan) (getD a (10 + (n + 1)) nan) ≡ true → 10 + (n + 1) ≡ largestTo a (n + 1)

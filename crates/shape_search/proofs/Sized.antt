@@ -9,7 +9,7 @@ use native.Mathlib.Omega.{arith}
 use lib.Dec.{T, ltb, nltb→le, lit<, lit≤}
 use lib.IntN.{pos}
 use lib.ListN.{length, getD, set}
-use lib.Ieee.{Float, nan, binary32, ofBits, ofInt, round, mul}
+use lib.Ieee.{Float, nan, binary32, ofBits, ofInt, round, add, sub, mul}
 use Rattle.float_laws.specs.Kind.{finite}
 use Rattle.float_laws.specs.Bounded.{Bounded}
 use Rattle.float_laws.specs.Size.{Within, exact}
@@ -21,8 +21,8 @@ use Rattle.pulse_search.specs.Claims.{Belongs, Held}
 use Rattle.pulse_search.proofs.Sums.{place-le, total-suc, total-one}
 use Rattle.pulse_search.proofs.Laws.{more-length, more-total, more-suc, more-zero, one-pair, best-le}
 use Rattle.pulse_search.proofs.Held.{far, squares-few}
-use Rattle.shape_search.specs.Projection.{none, zeros, projectedOf, termsOf, joined, joinedTo, someNotFinite, someSeven, totalOverSix, projection}
-use Rattle.shape_search.specs.Shape.{dropped, droppedTo, lowered, shape3, shape2}
+use Rattle.shape_search.specs.Projection.{none, zeros, projectedOf, termsOf, withTerms, joinedTo, someNotFinite, someSeven, totalOverSix, projection}
+use Rattle.shape_search.specs.Shape.{droppedTo, lowered, shape3, shape2}
 use Rattle.shape_search.specs.Claims.{Compares, SearchesFinite}
 use Rattle.shape_search.proofs.Facts.{unless-both, or-right-not, projection-length, projection-total, three-length, three-total, two-total, low-length, low-all}
 use Rattle.shape_search.proofs.Held.{searches-held}
@@ -114,17 +114,13 @@ module _ (r : SearchRecord) (x : Float) (B : Within x 16384 1) where
   sums : (j w : ℕ) → 16384 * j + 16384 * w ≤ 16384 * (j + w)
   sums j w = omega arith
 
-  joined-sized : (j w : ℕ) → w ≤ 32 → j + w ≤ 64 → Sized (r .correlation) j → Sized (joined r w x .correlation) (j + w)
-  unfolding joined termsOf
-  joined-sized j zero h k S = sized-up (r .correlation) j (j + 0) (omega arith) S
-  joined-sized j (suc w) h k S =
-      add-within binary32 (16384 * (j + suc w)) 1 (lit< tt) (big-exact (j + suc w) k) (r .correlation) (mul binary32 (ofInt binary32 (pos (suc w))) x) (16384 * j) (16384 * suc w) (sums j (suc w)) S (term (suc w) h)
-
-  dropped-sized : (j w : ℕ) → w ≤ 32 → j + w ≤ 64 → Sized (r .correlation) j → Sized (dropped r w x .correlation) (j + w)
-  unfolding dropped termsOf
-  dropped-sized j zero h k S = sized-up (r .correlation) j (j + 0) (omega arith) S
-  dropped-sized j (suc w) h k S =
-      sub-within binary32 (16384 * (j + suc w)) 1 (lit< tt) (big-exact (j + suc w) k) (r .correlation) (mul binary32 (ofInt binary32 (pos (suc w))) x) (16384 * j) (16384 * suc w) (sums j (suc w)) S (term (suc w) h)
+  -- put to a pair by an operation that keeps a sum's bound: addition, or subtraction
+  terms-sized : (op : Float → Float → Float) → ((g : ℕ) → T (exact binary32 g 1) → (y z : Float) (a b : ℕ) → a + b ≤ g → Within y a 1 → Within z b 1 → Within (op y z) g 1)
+      → (j w : ℕ) → w ≤ 32 → j + w ≤ 64 → Sized (r .correlation) j → Sized (withTerms op r w x .correlation) (j + w)
+  unfolding withTerms termsOf
+  terms-sized op o j zero h k S = sized-up (r .correlation) j (j + 0) (omega arith) S
+  terms-sized op o j (suc w) h k S =
+      o (16384 * (j + suc w)) (big-exact (j + suc w) k) (r .correlation) (mul binary32 (ofInt binary32 (pos (suc w))) x) (16384 * j) (16384 * suc w) (sums j (suc w)) S (term (suc w) h)
 
 none-sized : (j : ℕ) → Sized (none .correlation) j
 unfolding ofBits
@@ -136,7 +132,7 @@ module _ (a : List Float) (B : Bounded 16 16384 a) where
   joined-to y zero h u = none-sized _
   joined-to y (suc n) h u =
       rw total-suc
-      (joined-sized (joinedTo a y n) (getD a n nan) (B n h) (totalTo y n) (getD y n 0) (omega (arith, total-suc y n)) (omega (arith, total-suc y n)) (joined-to y n (le-trans (le-suc n) h) (omega (arith, total-suc y n))))
+      (terms-sized (joinedTo a y n) (getD a n nan) (B n h) (add binary32) (λ g e. add-within binary32 g 1 (lit< tt) e) (totalTo y n) (getD y n 0) (omega (arith, total-suc y n)) (omega (arith, total-suc y n)) (joined-to y n (le-trans (le-suc n) h) (omega (arith, total-suc y n))))
 
   -- the dropped places' pulses
   dropped-to : (y : List ℕ) (r : SearchRecord) → totalTo y 16 ≤ 8 → Sized (r .correlation) 8 → (n : ℕ) → n ≤ 6 → totalTo y (10 + n) ≤ 8 → Sized (droppedTo a y r n .correlation) (8 + totalTo y (10 + n))
@@ -146,7 +142,7 @@ module _ (a : List Float) (B : Bounded 16 16384 a) where
       let i : 10 + n < 16 = omega arith in
       let e : totalTo y (10 + suc n) ≡ totalTo y (10 + n) + getD y (10 + n) 0 = ap (totalTo y) (next n) ∙ total-suc y (10 + n) in
       let f : 8 + totalTo y (10 + n) + getD y (10 + n) 0 ≡ 8 + totalTo y (10 + suc n) = omega arith in
-      rw f at (dropped-sized (droppedTo a y r n) (getD a (10 + n) nan) (B (10 + n) i) (8 + totalTo y (10 + n)) (getD y (10 + n) 0) (omega (arith, place-le y (10 + n) 16 i)) (omega arith) (dropped-to y r t S n (le-trans (le-suc n) l) (omega arith)))
+      rw f at (terms-sized (droppedTo a y r n) (getD a (10 + n) nan) (B (10 + n) i) (sub binary32) (λ g e. sub-within binary32 g 1 (lit< tt) e) (8 + totalTo y (10 + n)) (getD y (10 + n) 0) (omega (arith, place-le y (10 + n) 16 i)) (omega arith) (dropped-to y r t S n (le-trans (le-suc n) l) (omega arith)))
     where
       next : (n : ℕ) → 10 + suc n ≡ suc (10 + n)
       next n = omega arith

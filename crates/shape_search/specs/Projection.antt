@@ -45,13 +45,16 @@ projectedOf a = listOf 16 (λ n. floorOf (productAt a n))
 unfoldable pub termsOf : ℕ → Float → SearchRecord
 termsOf w x = record { correlation = mul binary32 (ofInt binary32 (pos w)) x; energy = mul binary32 (ofInt binary32 (pos w)) (ofInt binary32 (pos w)) }
 
--- they are added where the pulses are not zero
-unfoldable pub joined : SearchRecord → ℕ → Float → SearchRecord
-joined r zero x = r
-joined r (suc w) x = record {
-  correlation = add binary32 (r .correlation) (termsOf (suc w) x .correlation);
-  energy = add binary32 (r .energy) (termsOf (suc w) x .energy);
+-- they are added to a pair, or subtracted from it, where the pulses are not zero
+unfoldable pub withTerms : (Float → Float → Float) → SearchRecord → ℕ → Float → SearchRecord
+withTerms op r zero x = r
+withTerms op r (suc w) x = record {
+  correlation = op (r .correlation) (termsOf (suc w) x .correlation);
+  energy = op (r .energy) (termsOf (suc w) x .energy);
 }
+
+abbrev pub joined : SearchRecord → ℕ → Float → SearchRecord
+joined r w x = withTerms (add binary32) r w x
 
 abbrev pub none : SearchRecord
 none = record { correlation = nought; energy = nought }

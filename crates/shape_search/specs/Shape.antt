@@ -8,7 +8,7 @@ use Rattle.float_laws.specs.Scan.{choose}
 use Rattle.list_laws.specs.ListOf.{listOf}
 use Rattle.pulse_search.specs.declared.SearchRecord.{SearchRecord}
 use Rattle.pulse_search.specs.Pulse.{Search, start, upTo}
-use Rattle.shape_search.specs.Projection.{termsOf, projection}
+use Rattle.shape_search.specs.Projection.{withTerms, projection}
 
 -- Shape 3: the projection. Then single pulses up to 6 over 16 places.
 unfoldable pub shape3 : List Float → Search
@@ -23,12 +23,8 @@ unfoldable pub lowOf : List ℕ → List ℕ
 lowOf y = listOf 16 (λ n. choose (ltb n 10) (getD y n 0) 0)
 
 -- subtract the same two terms of a dropped place from correlation and energy
-unfoldable pub dropped : SearchRecord → ℕ → Float → SearchRecord
-dropped r zero x = r
-dropped r (suc w) x = record {
-  correlation = sub binary32 (r .correlation) (termsOf (suc w) x .correlation);
-  energy = sub binary32 (r .energy) (termsOf (suc w) x .energy);
-}
+abbrev pub dropped : SearchRecord → ℕ → Float → SearchRecord
+dropped r w x = withTerms (sub binary32) r w x
 
 -- one place after another upward: the first n places from 10 on
 unfoldable pub droppedTo : List Float → List ℕ → SearchRecord → ℕ → SearchRecord

@@ -2,19 +2,19 @@
 use Prim.Native.Nat.{_-_}
 use borrow.Author.Needs.{needs}
 use Rattle.shape_search.specs.Projection.{termsOf}
-use Rattle.shape_search.proofs.Projection.{joined-zero, joined-some}
+use Rattle.shape_search.proofs.Projection.{terms-zero, terms-some}
 use Rattle.shape_search.proofs.join.Statement.{statement}
 use Rattle.shape_search.proofs.join.Tie as tie
 
 returns : tie.Need-returns
-returns c = joined-zero _ _ _ (c .if1 .taken)
+returns c = terms-zero _ _ _ _ (c .if1 .taken)
 
 int-to-float-m : tie.Need-int-to-float-m
 int-to-float-m c = search needs
 
 returns-2 : tie.Need-returns-2
 unfolding termsOf
-returns-2 c = joined-some _ _ _ (c .before .before .before .if1 .left)
+returns-2 c = terms-some _ _ _ _ (c .before .before .before .if1 .left)
 
 pub join-spec : {M : Type 1} → statement M
 join-spec = tie.close (tie.spec returns int-to-float-m returns-2)
