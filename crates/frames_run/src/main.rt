@@ -2,12 +2,12 @@
 // standard input is nine little-endian u32: the band count, low row, high row, shape, gain, sign A, sign B, index A and
 // index B. It writes how many were accepted, and the sum of all band values' bits modulo 2^32, which the Rust's own
 // decoder gives as well (tests/frames).
+use frame_fields::Fields;
 use libc::STDIN_FILENO;
 use libc::STDOUT_FILENO;
 use record_text::count::one_more;
 use record_text::input;
 use sns::Answer;
-use sns::fields::Fields;
 
 // The fields of a record, after its band count.
 fn fields(record: &[u8; 36]) -> Fields {

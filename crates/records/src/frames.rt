@@ -1,9 +1,9 @@
 // One record of sixteen factors: quantized, and a line of text for it.
+use frame_fields::Fields;
 use record_text::input;
 use record_text::text;
 use sns::Answer;
 use sns::encode::Encoded;
-use sns::fields::Fields;
 ghost use Prim.Native.Nat.{_≤_, _+_};
 
 // A number and a space.

@@ -8,7 +8,7 @@ use lib.Dec.{leb, eqb}
 use Rattle.shapes.specs.Sets.{setB}
 use Rattle.synthesis.specs.Claims.{Input}
 use Rattle.sns.specs.declared.Answer.the-variants.{Done}
-use Rattle.sns.specs.declared.fields.Fields.{Fields}
+use Rattle.frame_fields.specs.declared.Fields.{Fields}
 use Rattle.sns.specs.Answers.{answerOf}
 use Rattle.sns.specs.Fields.{usesB, fieldQuestions}
 use Rattle.sns.proofs.Answers.{done, not-given, none-left}

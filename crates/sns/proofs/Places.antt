@@ -17,7 +17,7 @@ use Rattle.interpolation.specs.Bands.{countOk}
 use Rattle.numbering.specs.Numbering.{leadSign, indexOf}
 use Rattle.sns.specs.declared.Answer.{Answer}
 use Rattle.sns.specs.declared.Answer.the-variants.{Done, No}
-use Rattle.sns.specs.declared.fields.Fields.{Fields}
+use Rattle.frame_fields.specs.declared.Fields.{Fields}
 use Rattle.sns.specs.Answers.{Question, ask, answerOf, placeOf}
 use Rattle.sns.specs.Elements.{factorQuestions, valueQuestions}
 use Rattle.sns.specs.Fields.{fieldQuestions}

@@ -22,7 +22,7 @@ use Rattle.sns.specs.declared.Answer.{Answer}
 use Rattle.sns.specs.declared.Answer.the-variants.{Done, No}
 use Rattle.sns.specs.declared.pack.Packed.{Packed}
 use Rattle.sns.specs.declared.pack.Packed.the-variants.{At}
-use Rattle.sns.specs.declared.fields.Fields.{Fields}
+use Rattle.frame_fields.specs.declared.Fields.{Fields}
 use Rattle.sns.specs.Answers.{Question, ask, answerOf}
 use Rattle.sns.specs.CheckFactor.{CheckSays}
 use Rattle.sns.specs.Decode.{decodeAnswer, fieldFactors, DecodeSays, PulsesSays}

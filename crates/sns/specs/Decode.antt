@@ -10,7 +10,7 @@ use lib.Ieee.{Float}
 use Rattle.decoder_pulses.specs.Pulses.{pulsesAt}
 use Rattle.synthesis.specs.Synthesis.{factorsOf}
 use Rattle.sns.specs.declared.Answer.{Answer}
-use Rattle.sns.specs.declared.fields.Fields.{Fields}
+use Rattle.frame_fields.specs.declared.Fields.{Fields}
 use Rattle.sns.specs.Answers.{Question, ask, answerOf, kept}
 use Rattle.sns.specs.Fields.{fieldQuestions}
 

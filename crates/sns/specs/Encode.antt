@@ -11,7 +11,7 @@ use Rattle.encoder.specs.Quantized.{quantizedOf}
 use Rattle.encoder.specs.declared.Quantized.{Quantized}
 use Rattle.sns.specs.declared.Answer.{Answer}
 use Rattle.sns.specs.declared.Answer.the-variants.{Done, No}
-use Rattle.sns.specs.declared.fields.Fields.{Fields}
+use Rattle.frame_fields.specs.declared.Fields.{Fields}
 use Rattle.sns.specs.declared.encode.Encoded.{Encoded}
 use Rattle.sns.specs.Answers.{Question, ask, answerOf, kept}
 use Rattle.sns.specs.Elements.{factorQuestions}

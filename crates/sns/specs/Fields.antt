@@ -5,7 +5,7 @@ use Prim.Native.Nat.{ℕ}
 use lib.Dec.{leb, ltb, eqb}
 use Rattle.sns_tables.specs.Gains.{gainsOf}
 use Rattle.shapes.specs.Sets.{setA, setB}
-use Rattle.sns.specs.declared.fields.Fields.{Fields}
+use Rattle.frame_fields.specs.declared.Fields.{Fields}
 use Rattle.sns.specs.Answers.{Question, ask}
 
 -- Shapes 1 to 3 don't look at B's sign and index: set B is in use in shape 0.

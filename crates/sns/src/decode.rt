@@ -1,7 +1,7 @@
 // Decoding: the sixteen factors of a frame's fields, and its sixteen pulses alone.
 use crate::Answer;
-use crate::fields::Fields;
 use crate::fields::field_refusal;
+use frame_fields::Fields;
 use sns_tables::spec_noise_shape_quant_tables as tables;
 ghost use mathlib.Core.Path.{_≡_};
 ghost use Rattle.sns.specs.declared.Answer.the-variants.{Done};

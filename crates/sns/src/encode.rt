@@ -1,8 +1,8 @@
 // Encoding: sixteen factors into a frame's fields and sixteen synthesised factors.
 use crate::Answer;
-use crate::fields::Fields;
 use encoder::Quantized;
 use factor::Scanned;
+use frame_fields::Fields;
 ghost use mathlib.Core.Path.{_≡_};
 ghost use Prim.Native.Nat.{_<_};
 ghost use Rattle.sns.specs.declared.Answer.the-variants.{Done};

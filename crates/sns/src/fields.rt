@@ -1,5 +1,6 @@
 // The decoder's fields, and when they are refused.
 use crate::Answer;
+use frame_fields::Fields;
 use shapes::PulseSet;
 use shapes::RegularB;
 ghost use mathlib.Core.Path.{_≡_};
@@ -7,18 +8,6 @@ ghost use mathlib.Core.Bool.{_&&_};
 ghost use lib.Dec.{leb};
 ghost use Rattle.sns.specs.Answers.{answerOf};
 ghost use Rattle.sns.specs.Fields.{usesB, fieldQuestions};
-
-// A quantized frame: both codebook rows, shape, gain, and the lead signs and indices of sets A and B.
-pub struct Fields {
-    pub low_row: u32,
-    pub high_row: u32,
-    pub shape: u32,
-    pub gain: u32,
-    pub sign_a: u32,
-    pub sign_b: u32,
-    pub index_a: u32,
-    pub index_b: u32,
-}
 
 // Set B is in use, and the value is at or above the end.
 fn over_in_b(shape: u32, value: u32, end: u32) -> bool

@@ -5,7 +5,7 @@ use Prim.Native.Nat.{ℕ}
 use Rattle.factor.specs.declared.Checked.{Checked}
 use Rattle.factor.specs.Check as check
 use Rattle.sns.specs.declared.Answer.{Answer}
-use Rattle.sns.specs.declared.fields.Fields.{Fields}
+use Rattle.frame_fields.specs.declared.Fields.{Fields}
 use Rattle.sns.specs.declared.pack.Packed.{Packed}
 use Rattle.sns.specs.Answers.{numberOf, placeOf, kept}
 use Rattle.sns.specs.Pack.{answered, indexIn, signIn}

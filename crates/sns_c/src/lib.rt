@@ -1,8 +1,8 @@
 // The public calls for C and Rust, as include/lc3_sns.h has them: thin, no rule of their own. An answer that is an enum goes
 // out as a struct of numbers, and each call is pinned by the definitions of crate `sns`.
 use factor::Checked;
+use frame_fields::Fields;
 use sns::Answer;
-use sns::fields::Fields;
 use sns::pack::Packed;
 ghost use Prim.Native.Nat.{_≤_};
 ghost use lib.ListN.{length};

@@ -9,6 +9,7 @@ use lib.IntN.{ℤ}
 use lib.ListN.{length, take, drop, length-take}
 use lib.Seq.{take-all}
 use Rattle.numbering.specs.Numbering.{pulsesOf, indexOf, leadSign}
+use Rattle.frame_fields.specs.Joint.{jointIndex}
 use Rattle.stage2.specs.declared.Numbers.{Numbers}
 use Rattle.stage2.specs.Numbers.{partA, partB, indexB, signB, numbersOf, jointOf, Numberable}
 
@@ -57,19 +58,19 @@ numbers-other (suc s) v w i a h e p q = rw (p, q, e)
 -- ---- the joint index
 module _ (s g : ℕ) (n : Numbers) where
   pub joint-0 : s ≡ 0 → (2 * n .idxb + n .«ls_indb» + 2) * 2390004 + n .idxa ≡ jointOf s g n
-  unfolding jointOf
+  unfolding jointOf jointIndex
   joint-0 e = rw e
 
   pub joint-1 : s ≡ 1 → g % 2 * 2390004 + n .idxa ≡ jointOf s g n
-  unfolding jointOf
+  unfolding jointOf jointIndex
   joint-1 e = rw e
 
   pub joint-2 : s ≡ 2 → n .idxa ≡ jointOf s g n
-  unfolding jointOf
+  unfolding jointOf jointIndex
   joint-2 e = rw e
 
 pub joint-3 : (s g : ℕ) (n : Numbers) → (s ≡ 0 → ⊥) → (s ≡ 1 → ⊥) → (s ≡ 2 → ⊥) → 15158272 + g % 2 + 2 * n .idxa ≡ jointOf s g n
-unfolding jointOf
+unfolding jointOf jointIndex
 joint-3 zero g n h k l = absurd (h refl)
 joint-3 (suc zero) g n h k l = absurd (k refl)
 joint-3 (suc (suc zero)) g n h k l = absurd (l refl)

@@ -23,6 +23,7 @@ use Rattle.shape_search.proofs.Facts.{zero-low, zero-total, one-low, one-zero, 
 use Rattle.stage2_target.specs.Target.{absolutesOf}
 use Rattle.candidates.specs.Candidate.{signedOf, signedAt}
 use Rattle.candidates.proofs.Claims.{signed-size}
+use Rattle.frame_fields.specs.Joint.{jointIndex}
 use Rattle.stage2.specs.Numbers.{partA, partB, indexB, signB, numbersOf, jointOf, Numberable, Small, bothSets, unpackedOf}
 use Rattle.stage2.specs.Stage2.{pulsesFor, signedFor}
 
@@ -228,13 +229,13 @@ bit : (g : ℕ) → g % 2 ≤ 1
 bit g = le-of-suc-le-suc (mod-lt g (lit< tt))
 
 pub low-top : (t : List Float) (s g : ℕ) → s < 2 → jointOf s g (numbersOf s (signedFor t s)) ≤ 33460055
-unfolding jointOf numbersOf
+unfolding jointOf jointIndex numbersOf
 low-top t zero g h = omega (arith, index-low t 0 (lit< tt), b-small t 0)
 low-top t (suc zero) g h = omega (arith, index-low t 1 (lit< tt), bit g)
 low-top t (suc (suc s)) g h = absurd (omega arith)
 
 pub high-top : (t : List Float) (s g : ℕ) → 2 ≤ s → jointOf s g (numbersOf s (signedFor t s)) ≤ 16708095
-unfolding jointOf numbersOf
+unfolding jointOf jointIndex numbersOf
 high-top t zero g h = absurd (omega arith)
 high-top t (suc zero) g h = absurd (omega arith)
 high-top t (suc (suc zero)) g h = omega (arith, index-near t)

@@ -4,6 +4,7 @@ use mathlib.Core.List.{List, _++_}
 use Prim.Native.Nat.{ℕ, zero, suc, _+_, _*_, _%_, _≤_, _<_}
 use lib.IntN.{ℤ, pos}
 use lib.ListN.{length, take, drop, replicate}
+use Rattle.frame_fields.specs.Joint.{jointIndex}
 use Rattle.shapes.specs.Sets.{setA, setB}
 use Rattle.numbering.specs.Numbering.{pulsesOf, indexOf, leadSign, vectorAt}
 use Rattle.stage2.specs.declared.Numbers.{Numbers}
@@ -28,12 +29,9 @@ signB (suc s) v = 0
 unfoldable pub numbersOf : ℕ → List ℤ → Numbers
 numbersOf shape v = record { idxa = indexOf (partA shape v); «ls_inda» = leadSign (partA shape v); idxb = indexB shape v; «ls_indb» = signB shape v }
 
--- Joint index: shape 0, (2·b + sign b + 2)·2390004 + a; shape 1, (gain mod 2)·2390004 + a; shape 2, a; shape 3, 15158272 + (gain mod 2) + 2·a.
+-- the joint index of a shape, a gain and the numbers
 unfoldable pub jointOf : ℕ → ℕ → Numbers → ℕ
-jointOf zero gain n = (2 * n .idxb + n .«ls_indb» + 2) * 2390004 + n .idxa
-jointOf (suc zero) gain n = gain % 2 * 2390004 + n .idxa
-jointOf (suc (suc zero)) gain n = n .idxa
-jointOf (suc (suc (suc s))) gain n = 15158272 + gain % 2 + 2 * n .idxa
+jointOf shape gain n = jointIndex shape gain (n .idxa) (n .«ls_indb») (n .idxb)
 
 -- sixteen places of which each set has few enough pulses to be numbered
 pub record Numberable (shape : ℕ) (v : List ℤ) : Type 0 where
