@@ -4,55 +4,59 @@ use Rattle.pulse_search.proofs.Held.{record-ordered}
 use Rattle.shape_search.proofs.Held.{searches-held, shapes-held, one-search}
 use Rattle.candidates.proofs.Choices.{choices-are, all-tried}
 use Rattle.synthesis.proofs.Claims.{within-64}
+use Rattle.refusals.proofs.Answers as refusals
+use Rattle.sns_check.proofs.Claims as check
+use Rattle.sns_encode.proofs.Claims as encode
+use Rattle.sns_decode.proofs.Claims as decode
+use Rattle.sns_interpolate.proofs.Claims as interpolate
+use Rattle.sns_shape.proofs.Claims as shape
+use Rattle.sns_number.proofs.Claims as number
+use Rattle.sns.proofs.EncodeClaims as third
 use Rattle.sns.specs.Demands.{Answered, Kept, Taken, Numbered, Unbeaten}
-use Rattle.sns.proofs.Answers as answers
-use Rattle.sns.proofs.Claims as claims
-use Rattle.sns.proofs.Taken as taken
-use Rattle.sns.proofs.EncodeClaims as encode
 
 pub answered : Answered
 answered =
     record {
-      refused-exactly = answers.refused-exactly;
-      done-exactly = answers.done-exactly;
-      check-pinned = claims.check-pinned;
+      refused-exactly = refusals.refused-exactly;
+      done-exactly = refusals.done-exactly;
+      check-pinned = check.check-pinned;
       encode-pinned = encode.encode-pinned;
-      decode-pinned = claims.decode-pinned;
-      pulses-pinned = claims.pulses-pinned;
-      interpolate-pinned = claims.interpolate-pinned;
-      shape-pinned = claims.shape-pinned;
-      pack-pinned = claims.pack-pinned;
-      unpack-pinned = claims.unpack-pinned;
+      decode-pinned = decode.decode-pinned;
+      pulses-pinned = decode.pulses-pinned;
+      interpolate-pinned = interpolate.interpolate-pinned;
+      shape-pinned = shape.shape-pinned;
+      pack-pinned = number.pack-pinned;
+      unpack-pinned = number.unpack-pinned;
     }
 
 pub keeps : Kept
 keeps =
     record {
       encode-keeps = encode.encode-keeps;
-      decode-keeps = claims.decode-keeps;
-      pulses-keep = claims.pulses-keep;
-      interpolate-keeps = claims.interpolate-keeps;
-      shape-keeps = claims.shape-keeps;
-      unpack-keeps = claims.unpack-keeps;
+      decode-keeps = decode.decode-keeps;
+      pulses-keep = decode.pulses-keep;
+      interpolate-keeps = interpolate.interpolate-keeps;
+      shape-keeps = shape.shape-keeps;
+      unpack-keeps = number.unpack-keeps;
     }
 
 pub takes : Taken
 takes =
     record {
       encode-takes = encode.encode-takes;
-      decode-takes = taken.decode-takes;
-      interpolate-takes = taken.interpolate-takes;
-      shape-takes = taken.shape-takes;
-      unpack-takes = claims.unpack-takes;
-      pack-takes = claims.pack-takes;
+      decode-takes = decode.decode-takes;
+      interpolate-takes = interpolate.interpolate-takes;
+      shape-takes = shape.shape-takes;
+      unpack-takes = number.unpack-takes;
+      pack-takes = number.pack-takes;
     }
 
 pub numbered : Numbered
 numbered =
     record {
       any-pair = claim;
-      unpack-then-pack = claims.unpack-pack;
-      pack-then-unpack = claims.pack-unpack;
+      unpack-then-pack = number.unpack-pack;
+      pack-then-unpack = number.pack-unpack;
       decoded-within = within-64;
     }
 
@@ -61,10 +65,10 @@ unbeaten =
     record {
       in-all = choices-are;
       all-tried = all-tried;
-      none-beats = encode.none-beats;
-      no-gain-beats = encode.no-gain-beats;
-      answered = encode.all-answered;
-      decodes-again = encode.decodes-again;
+      none-beats = third.none-beats;
+      no-gain-beats = third.no-gain-beats;
+      answered = third.all-answered;
+      decodes-again = third.decodes-again;
       factors-alone = encode.factors-alone;
       searches-held = searches-held;
       shapes-held = shapes-held;

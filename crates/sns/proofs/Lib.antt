@@ -1,14 +1,2 @@
-pub mod Answers
-pub mod Elements
-pub mod Accepted
-pub mod EncodeAnswers
-pub mod InterpolateAnswers
-pub mod ShapeAnswers
-pub mod Pairs
-pub mod UnpackAnswers
-pub mod PackAnswers
-pub mod Taken
-pub mod Places
-pub mod Claims
 pub mod EncodeClaims
 pub mod Demands

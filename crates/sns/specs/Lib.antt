@@ -1,13 +1,2 @@
-pub mod Answers
-pub mod Elements
-pub mod CheckFactor
-pub mod Fields
-pub mod Decode
-pub mod Encode
-pub mod Interpolate
-pub mod Shape
-pub mod Unpack
-pub mod Pack
-pub mod Claims
 pub mod EncodeClaims
 pub mod Demands

@@ -1,5 +1,6 @@
 // Spectral noise shaping of LC3: the public calls. Nothing is required of a caller; every call returns on every input, and
-// states its whole answer and every element of each lent buffer. Each call has a file of its own:
+// states its whole answer and every element of each lent buffer. Each call has a crate of its own, with its questions, its
+// statement and what is claimed of it; here is the list of them, and in specs/ the page of demands:
 //   check_factor   one factor against the limit
 //   decode         a frame's fields into sixteen factors, or into their sixteen pulses
 //   encode         sixteen factors into a frame's fields, and sixteen synthesised factors
@@ -16,8 +17,4 @@ pub mod pack;
 pub mod shape;
 pub mod unpack;
 
-// Done, or no, with the number of the refusal and a place.
-pub enum Answer {
-    Done,
-    No(u32, usize),
-}
+pub use refusals::Answer;

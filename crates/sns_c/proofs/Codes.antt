@@ -2,8 +2,8 @@
 use mathlib.Core.Path.{_≡_, sym, ap, _∙_, subst}
 use mathlib.Core.List.{List}
 use Prim.Native.Nat.{_≤_}
-use Rattle.sns.specs.declared.Answer.{Answer}
-use Rattle.sns.specs.Answers.{numberOf, placeOf, kept}
+use Rattle.refusals.specs.declared.Answer.{Answer}
+use Rattle.refusals.specs.Answers.{numberOf, placeOf, kept}
 use Rattle.sns_c.specs.declared.Code.{Code}
 use Rattle.sns_c.specs.Answers.{IsCode, CodeSays}
 

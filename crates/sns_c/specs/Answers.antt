@@ -4,15 +4,15 @@ use mathlib.Core.List.{List}
 use Prim.Native.Nat.{ℕ}
 use Rattle.factor.specs.declared.Checked.{Checked}
 use Rattle.factor.specs.Check as check
-use Rattle.sns.specs.declared.Answer.{Answer}
+use Rattle.refusals.specs.declared.Answer.{Answer}
 use Rattle.frame_fields.specs.declared.Fields.{Fields}
-use Rattle.sns.specs.declared.pack.Packed.{Packed}
-use Rattle.sns.specs.Answers.{numberOf, placeOf, kept}
-use Rattle.sns.specs.Pack.{answered, indexIn, signIn}
+use Rattle.sns_number.specs.declared.pack.Packed.{Packed}
+use Rattle.refusals.specs.Answers.{numberOf, placeOf, kept}
+use Rattle.sns_number.specs.Pack.{answered, indexIn, signIn}
 use lib.Ieee.{Float}
 use Rattle.encoder.specs.declared.Quantized.{Quantized}
-use Rattle.sns.specs.declared.encode.Encoded.{Encoded}
-use Rattle.sns.specs.Encode.{encodedAs}
+use Rattle.sns_encode.specs.declared.Encoded.{Encoded}
+use Rattle.sns_encode.specs.Encode.{encodedAs}
 use Rattle.sns_c.specs.declared.Code.{Code}
 use Rattle.sns_c.specs.declared.EncodedCode.{EncodedCode}
 use Rattle.sns_c.specs.declared.PackedCode.{PackedCode}

@@ -2,8 +2,8 @@
 use mathlib.Core.Path.{_≡_}
 use mathlib.Core.List.{List}
 use Rattle.factor.specs.declared.Checked.{Checked}
-use Rattle.sns.specs.declared.Answer.{Answer}
-use Rattle.sns.specs.declared.pack.Packed.{Packed}
+use Rattle.refusals.specs.declared.Answer.{Answer}
+use Rattle.sns_number.specs.declared.pack.Packed.{Packed}
 use Rattle.sns_c.specs.declared.Code.{Code}
 use Rattle.sns_c.specs.declared.PackedCode.{PackedCode}
 use Rattle.sns_c.specs.declared.CheckedCode.{CheckedCode}

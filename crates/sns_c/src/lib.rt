@@ -10,14 +10,14 @@ ghost use Rattle.factor.specs.Check.{factorLimit, checkedOf};
 ghost use Rattle.numbering.specs.Numbering.{vectorAt};
 ghost use Rattle.interpolation.specs.Bands.{interpolated};
 ghost use Rattle.shaping.specs.Shaping.{shapedOf};
-ghost use Rattle.sns.specs.Answers.{placeOf};
-ghost use Rattle.sns.specs.Decode.{decodeAnswer, fieldFactors};
+ghost use Rattle.refusals.specs.Answers.{placeOf};
+ghost use Rattle.sns_decode.specs.Decode.{decodeAnswer, fieldFactors};
 ghost use Rattle.encoder.specs.Quantized.{quantizedOf};
-ghost use Rattle.sns.specs.Encode.{encodeAnswer};
-ghost use Rattle.sns.specs.Interpolate.{interpolateAnswer};
-ghost use Rattle.sns.specs.Shape.{shapeAnswer};
-ghost use Rattle.sns.specs.Pack.{packAnswer};
-ghost use Rattle.sns.specs.Unpack.{unpackAnswer};
+ghost use Rattle.sns_encode.specs.Encode.{encodeAnswer};
+ghost use Rattle.sns_interpolate.specs.Interpolate.{interpolateAnswer};
+ghost use Rattle.sns_shape.specs.Shape.{shapeAnswer};
+ghost use Rattle.sns_number.specs.Pack.{packAnswer};
+ghost use Rattle.sns_number.specs.Unpack.{unpackAnswer};
 ghost use Rattle.sns_c.specs.Answers.{IsCode, CodeSays, EncodedSays, IsPacked, IsChecked, fieldsOf};
 
 // What a call that fills a buffer answers; 0 and 0 where it is done.

@@ -3,7 +3,7 @@ use mathlib.Core.Path.{sym, ap, subst}
 use Prim.Native.Nat.{_≤_}
 use native.Mathlib.Omega.{arith}
 use borrow.Author.Needs.{needs}
-use Rattle.sns.specs.Answers.{numberOf, placeOf}
+use Rattle.refusals.specs.Answers.{numberOf, placeOf}
 use Rattle.sns_c.proofs.coded.Statement.{statement}
 use Rattle.sns_c.proofs.coded.Tie as tie
 

@@ -1,6 +1,6 @@
 -- The public call's own statement, and its answer as a code.
 use borrow.Author.Needs.{needs}
-use Rattle.sns.proofs.Places.{decode-place}
+use Rattle.sns_decode.proofs.Places.{decode-place}
 use Rattle.sns_c.proofs.Codes.{says, small}
 use Rattle.sns_c.proofs.lc3_sns_decode.Statement.{statement}
 use Rattle.sns_c.proofs.lc3_sns_decode.Tie as tie

@@ -6,13 +6,13 @@ use Prim.Native.Nat.{ℕ, _≤_}
 use lib.ListN.{length}
 use lib.Ieee.{Float}
 use Rattle.encoder.specs.declared.Quantized.{Quantized}
-use Rattle.sns.specs.declared.Answer.{Answer}
-use Rattle.sns.specs.declared.Answer.the-variants.{Done, No}
-use Rattle.sns.specs.declared.encode.Encoded.{Encoded}
-use Rattle.sns.specs.Answers.{placeOf, kept}
+use Rattle.refusals.specs.declared.Answer.{Answer}
+use Rattle.refusals.specs.declared.Answer.the-variants.{Done, No}
+use Rattle.sns_encode.specs.declared.Encoded.{Encoded}
+use Rattle.refusals.specs.Answers.{placeOf, kept}
 use Rattle.encoder.specs.Quantized.{quantizedOf}
-use Rattle.sns.specs.Encode.{encodeAnswer, encodedAs}
-use Rattle.sns.proofs.Places.{encode-place}
+use Rattle.sns_encode.specs.Encode.{encodeAnswer, encodedAs}
+use Rattle.sns_encode.proofs.Places.{encode-place}
 use Rattle.sns_c.specs.declared.Code.{Code}
 use Rattle.sns_c.specs.declared.EncodedCode.{EncodedCode}
 use Rattle.sns_c.specs.Answers.{IsCode, IsEncoded, EncodedSays}

@@ -3,10 +3,10 @@ use mathlib.Core.Path.{_≡_, sym, ap, _∙_, subst}
 use Prim.Native.Nat.{_≤_}
 use native.Mathlib.Omega.{arith}
 use borrow.Author.Needs.{needs}
-use Rattle.sns.specs.declared.pack.Packed.{Packed}
-use Rattle.sns.specs.Answers.{numberOf, placeOf}
-use Rattle.sns.specs.Pack.{packAnswer, answered, indexIn, signIn}
-use Rattle.sns.proofs.Places.{pack-place}
+use Rattle.sns_number.specs.declared.pack.Packed.{Packed}
+use Rattle.refusals.specs.Answers.{numberOf, placeOf}
+use Rattle.sns_number.specs.Pack.{packAnswer, answered, indexIn, signIn}
+use Rattle.sns_number.proofs.Places.{pack-place}
 use Rattle.sns_c.proofs.lc3_sns_pack.Statement.{statement}
 use Rattle.sns_c.proofs.lc3_sns_pack.Tie as tie
 

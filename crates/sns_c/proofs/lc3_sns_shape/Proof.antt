@@ -1,6 +1,6 @@
 -- The public call's own statement, and its answer as a code.
 use borrow.Author.Needs.{needs}
-use Rattle.sns.proofs.Places.{shape-place}
+use Rattle.sns_shape.proofs.Places.{shape-place}
 use Rattle.sns_c.proofs.Codes.{says, small}
 use Rattle.sns_c.proofs.lc3_sns_shape.Statement.{statement}
 use Rattle.sns_c.proofs.lc3_sns_shape.Tie as tie

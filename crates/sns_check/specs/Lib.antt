@@ -1,0 +1,2 @@
+pub mod CheckFactor
+pub mod Claims

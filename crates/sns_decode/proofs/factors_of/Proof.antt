@@ -1,0 +1,53 @@
+-- Accepted fields are accepted by synthesis, and each table is what it is lent as.
+use mathlib.Core.Path.{_∙_}
+use borrow.Author.Needs.{needs}
+use Rattle.synthesis.proofs.Claims as synthesis
+use Rattle.field_refusal.proofs.Accepted.{accepted}
+use Rattle.sns_decode.proofs.factors_of.Statement.{statement}
+use Rattle.sns_decode.proofs.factors_of.Tie as tie
+
+pulses-of-requires : tie.Need-pulses-of-requires
+pulses-of-requires c κs = search needs
+
+lfcb-requires : tie.Need-lfcb-requires
+lfcb-requires c κs = search needs
+
+hfcb-requires : tie.Need-hfcb-requires
+hfcb-requires c κs = search needs
+
+d-by-columns-requires : tie.Need-d-by-columns-requires
+d-by-columns-requires c κs = search needs
+
+roots-requires : tie.Need-roots-requires
+roots-requires c κs = search needs
+
+cast-factors : tie.Need-cast-factors
+cast-factors c = search needs
+
+cast-factors-2 : tie.Need-cast-factors-2
+cast-factors-2 c = search needs
+
+cast-factors-3 : tie.Need-cast-factors-3
+cast-factors-3 c = search needs
+
+cast-factors-4 : tie.Need-cast-factors-4
+cast-factors-4 c = search needs
+
+factors-requires : tie.Need-factors-requires
+factors-requires c κs =
+    let r = c .before .before .before .before .before .before .before .before .before in
+    let d = r .before in
+    let y = d .before .before .before in (
+      (d .before .before .lfcb .ensures, d .before .hfcb .ensures, d .d-by-columns .ensures, r .roots .ensures),
+      rw (y .pulses-of .ensures) (synthesis.accepted _ _ _ _ _ _ _ _ (accepted _ (y .before .pre))),
+    )
+
+returns : tie.Need-returns
+returns c =
+    let y = c .before .before .before .before .before .before .before .before .before .before .before .before .before .before in
+    c .factors .ensures ∙ rw (y .pulses-of .ensures)
+
+pub factors-of-spec : {M : Type 1} → statement M
+factors-of-spec =
+    tie.close
+    (tie.spec pulses-of-requires lfcb-requires hfcb-requires d-by-columns-requires roots-requires cast-factors cast-factors-2 cast-factors-3 cast-factors-4 factors-requires returns)

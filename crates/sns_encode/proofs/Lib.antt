@@ -1,0 +1,3 @@
+pub mod EncodeAnswers
+pub mod Places
+pub mod Claims

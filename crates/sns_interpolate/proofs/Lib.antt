@@ -1,0 +1,3 @@
+pub mod InterpolateAnswers
+pub mod Places
+pub mod Claims

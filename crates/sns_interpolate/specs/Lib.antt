@@ -1,0 +1,2 @@
+pub mod Interpolate
+pub mod Claims

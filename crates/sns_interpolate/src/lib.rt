@@ -1,0 +1,27 @@
+// Interpolation: sixteen factors into bands.
+use factor::Scanned;
+use refusals::Answer;
+ghost use Rattle.sns_interpolate.specs.Interpolate.{InterpolateSays};
+
+// Fills `bands`, `band_count` of them, 60 or 64, from sixteen factors. Refused with 11 (the band count), 9 (the factors'
+// or the bands' length), 7 and 8 (a factor, by place), asked in this order.
+pub fn interpolate(factors: &[f32], band_count: u32, bands: &mut [f32]) -> Answer
+    ensures { λ r. ⌜ InterpolateSays (now (factors .entry)) «band_count» (now (bands .entry)) r (now (bands .exit)) ⌝ }
+{
+    if !interpolation::count_ok(band_count) {
+        return Answer::No(11, 0);
+    }
+    if factors.len() != 16 {
+        return Answer::No(9, 0);
+    }
+    if bands.len() != band_count as usize {
+        return Answer::No(9, 0);
+    }
+    match factor::first_refused(factors, interpolation::band_limit()) {
+        Scanned::Refused(number, place) => Answer::No(number, place),
+        Scanned::Taken => {
+            interpolation::interpolate(&rows::sixteen(factors), bands);
+            Answer::Done
+        }
+    }
+}

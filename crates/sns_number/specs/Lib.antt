@@ -1,0 +1,3 @@
+pub mod Unpack
+pub mod Pack
+pub mod Claims

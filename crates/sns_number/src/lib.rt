@@ -1,0 +1,3 @@
+// The numbering of pulse vectors, called from outside: nothing is required of a caller.
+pub mod pack;
+pub mod unpack;

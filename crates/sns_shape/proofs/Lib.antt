@@ -1,0 +1,3 @@
+pub mod ShapeAnswers
+pub mod Places
+pub mod Claims
