@@ -7,7 +7,7 @@ use lib.Dec.{lit<}
 use lib.IntN.{ℤ, pos}
 use lib.ListN.{take, drop, replicate, length-replicate}
 use lib.Seq.{take-at, drop-at}
-use Rattle.sns_tables.specs.Offsets.{sizeOf}
+use Rattle.mpvq_offsets.specs.Offsets.{sizeOf}
 use Rattle.shapes.specs.Sets.{setA, setB}
 use Rattle.numbering.specs.Numbering.{PulseVector, pulsesOf, vectorAt}
 use Rattle.numbering.proofs.Claims.{claim}

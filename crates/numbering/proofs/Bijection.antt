@@ -7,7 +7,7 @@ use native.Mathlib.Nat.{zero-add}
 use native.Mathlib.Omega.{arith}
 use lib.IntN.{ℤ, pos, negsuc}
 use lib.ListN.{length}
-use Rattle.sns_tables.specs.Offsets.{offsetOf, sizeOf}
+use Rattle.mpvq_offsets.specs.Offsets.{offsetOf, sizeOf}
 use Rattle.numbering.specs.Numbering.{pulsesOf, signBefore, leadSign, pushed, indexOf, signed, columnOf, nextSign, nextIndex, vectorAt}
 use Rattle.numbering.proofs.Offsets.{step, first, ones, rises, mono, gap}
 use Rattle.numbering.proofs.Columns.{Column, column, column-is}

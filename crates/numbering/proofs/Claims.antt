@@ -5,7 +5,7 @@ use Prim.Native.Nat.{ℕ, zero, suc, _≤_, _<_}
 use native.Mathlib.Omega.{arith}
 use lib.IntN.{ℤ}
 use lib.ListN.{length}
-use Rattle.sns_tables.specs.Offsets.{offsetOf, sizeOf}
+use Rattle.mpvq_offsets.specs.Offsets.{offsetOf, sizeOf}
 use Rattle.shapes.proofs.Sizes.{size-regular-a, size-regular-b, size-near, size-far}
 use Rattle.numbering.specs.Numbering.{pulsesOf, PulseVector, signBefore, leadSign, indexOf, signed, vectorAt}
 use Rattle.numbering.specs.Claims.{Once, OneToOne, Claim, RegularA, RegularB, OutlierNear, OutlierFar, LeadSign, MoreFirst}

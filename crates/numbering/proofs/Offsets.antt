@@ -3,7 +3,7 @@ use mathlib.Core.Path.{_≡_, refl}
 use Prim.Native.Nat.{ℕ, zero, suc, _+_, _-_, _*_, _≤_, _<_}
 use native.Mathlib.Nat.{add-zero, add-suc}
 use native.Mathlib.Omega.{arith}
-use Rattle.sns_tables.specs.Offsets.{offsetOf, sizeOf}
+use Rattle.mpvq_offsets.specs.Offsets.{offsetOf, sizeOf}
 
 pub step : (n k : ℕ) → offsetOf (suc n) (suc k) ≡ offsetOf n k + offsetOf (suc n) k + offsetOf n (suc k)
 unfolding offsetOf

@@ -6,7 +6,7 @@ use native.Mathlib.Omega.{arith}
 use lib.IntN.{ℤ, pos, natAbs}
 use lib.ListN.{length, drop, getD, length-drop}
 use lib.Seq.{drop-cons, drop-nil}
-use Rattle.sns_tables.specs.Offsets.{offsetOf}
+use Rattle.mpvq_offsets.specs.Offsets.{offsetOf}
 use Rattle.numbering.specs.Numbering.{pulsesOf, signBefore, leadSign, pushed, indexOf}
 use Rattle.numbering.proofs.Offsets.{mono, mono-rows}
 use Rattle.numbering.proofs.Bijection.{room}

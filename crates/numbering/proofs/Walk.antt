@@ -8,7 +8,7 @@ use native.Mathlib.Omega.{arith}
 use lib.IntN.{ℤ, pos}
 use lib.ListN.{length, take, set, replicate}
 use Rattle.list_laws.proofs.Prefix.{prefix-more, prefix-all}
-use Rattle.sns_tables.specs.Offsets.{offsetOf}
+use Rattle.mpvq_offsets.specs.Offsets.{offsetOf}
 use Rattle.numbering.specs.Numbering.{columnOf, signed, nextSign, nextIndex, vectorAt}
 use Rattle.numbering.proofs.Offsets.{first, second}
 use Rattle.numbering.proofs.Columns.{column-zero}

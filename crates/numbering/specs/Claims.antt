@@ -4,7 +4,7 @@ use mathlib.Core.List.{List, _∷_}
 use Prim.Native.Nat.{ℕ, suc, _<_}
 use lib.IntN.{ℤ, pos, natAbs}
 use lib.ListN.{length, getD}
-use Rattle.sns_tables.specs.Offsets.{sizeOf}
+use Rattle.mpvq_offsets.specs.Offsets.{sizeOf}
 use Rattle.numbering.specs.Numbering.{PulseVector, leadSign, indexOf, signed, vectorAt}
 
 module _ (n k size : ℕ) where

@@ -4,7 +4,7 @@ use mathlib.Core.List.{List, [], _∷_, _++_, map}
 use Prim.Native.Nat.{ℕ}
 use lib.IntN.{ℤ, pos, negsuc}
 use lib.ListN.{replicate}
-use Rattle.sns_tables.specs.Offsets.{offsetOf}
+use Rattle.mpvq_offsets.specs.Offsets.{offsetOf}
 use Rattle.numbering.specs.Numbering.{vectorAt}
 
 -- A(n,k), or the vector of a dimension and a pulse count at a sign and an index

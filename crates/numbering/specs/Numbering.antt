@@ -7,7 +7,7 @@ use Prim.Native.Nat.{ℕ, zero, suc, _+_, _-_, _*_, _/_, _%_}
 use lib.Dec.{leb}
 use lib.IntN.{ℤ, pos, negsuc, natAbs}
 use lib.ListN.{length}
-use Rattle.sns_tables.specs.Offsets.{offsetOf}
+use Rattle.mpvq_offsets.specs.Offsets.{offsetOf}
 
 -- the pulses of a vector: its absolute values' sum
 unfoldable pub pulsesOf : List ℤ → ℕ

@@ -6,10 +6,10 @@ ghost use mathlib.Core.List.{_++_};
 ghost use Prim.Native.Nat.{_<_, _≤_, _+_, _-_, _*_};
 ghost use lib.IntN.{pos, natAbs};
 ghost use lib.ListN.{length, take, set, replicate};
-ghost use Rattle.sns_tables.specs.Offsets.{offsetOf};
+ghost use Rattle.mpvq_offsets.specs.Offsets.{offsetOf};
 ghost use Rattle.numbering.specs.Numbering.{pulsesOf, leadSign, signBefore, pushed, indexOf, columnOf, signed, nextSign, nextIndex, vectorAt};
-use sns_tables::mpvq_offsets::mpvq_offset;
-use sns_tables::mpvq_offsets::offset_at;
+use mpvq_offsets::mpvq_offset;
+use mpvq_offsets::offset_at;
 
 // An index with its lead sign.
 pub struct Numbered {

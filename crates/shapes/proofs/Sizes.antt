@@ -1,6 +1,6 @@
 -- The sizes of the four sets, as the sum of offsets that the definition says. Assumes nothing.
 use mathlib.Core.Path.{_≡_, refl}
-use Rattle.sns_tables.specs.Offsets.{offsetOf, sizeOf}
+use Rattle.mpvq_offsets.specs.Offsets.{offsetOf, sizeOf}
 use Rattle.shapes.specs.Claims.{SizesAre}
 
 pub size-regular-a : sizeOf 10 10 ≡ 2390004

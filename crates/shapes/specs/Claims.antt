@@ -1,6 +1,6 @@
 -- What is proved of the shapes. Definitions only: it is proved in proofs/Sizes.
 use mathlib.Core.Path.{_≡_}
-use Rattle.sns_tables.specs.Offsets.{sizeOf}
+use Rattle.mpvq_offsets.specs.Offsets.{sizeOf}
 
 -- the sizes of the four sets, each A(0,k) + ... + A(n-1,k)
 abbrev pub SizesAre : Type 0

@@ -2,7 +2,7 @@
 use Prim.Native.Nat.{ℕ, zero, suc}
 use mathlib.Core.Bool.{Bool, _&&_, _||_, cond}
 use lib.Dec.{eqb}
-use Rattle.sns_tables.specs.Offsets.{sizeOf}
+use Rattle.mpvq_offsets.specs.Offsets.{sizeOf}
 use Rattle.shapes.specs.declared.PulseSet.{PulseSet}
 use Rattle.shapes.specs.declared.Found.{Found}
 use Rattle.shapes.specs.declared.Found.the-variants.{Set, Nothing}

@@ -6,7 +6,7 @@ use native.Mathlib.Omega.{arith}
 use lib.ListN.{length, getD}
 use lib.Ieee.{nan}
 use Rattle.list_laws.proofs.ListOf.{getD-listOf}
-use Rattle.sns_tables.specs.Bands.{limitsOf, bandsOf}
+use Rattle.band_index_tables.specs.Bands.{limitsOf, bandsOf}
 use Rattle.shaping.specs.Shaping.{shapedLine}
 use Rattle.shaping.specs.Claims.{InBands, PastStay}
 use Rattle.shaping.proofs.Laws.{rises-to, untouched, in-band}

@@ -16,8 +16,8 @@ use Rattle.list_laws.specs.ListOf.{listOf}
 use Rattle.list_laws.proofs.ListOf.{is-listOf, getD-listOf, length-listOf, same-listOf}
 use Rattle.list_laws.proofs.InPlace.{Passed}
 use Rattle.list_laws.proofs.Part.{length-replaced, before, within, after}
-use Rattle.sns_tables.specs.Bands.{limitsOf, bandsOf, handedOut}
-use Rattle.sns_tables.proofs.Bands.{limits}
+use Rattle.band_index_tables.specs.Bands.{limitsOf, bandsOf, handedOut}
+use Rattle.band_index_tables.proofs.Bands.{limits}
 use Rattle.shaping.specs.Shaping.{inside, scaledPart, inBand, shapedLine}
 
 -- ---- the test `inside`

@@ -5,7 +5,7 @@ use mathlib.Core.List.{List}
 use Prim.Native.Nat.{ℕ, _+_, _≤_, _<_}
 use lib.ListN.{length, getD}
 use lib.Ieee.{Float, nan, binary32, mul}
-use Rattle.sns_tables.specs.Bands.{limitsOf, bandsOf, lastLimit}
+use Rattle.band_index_tables.specs.Bands.{limitsOf, bandsOf, lastLimit}
 use Rattle.shaping.specs.Shaping.{Shapeable, shapedOf}
 
 -- each line of band b is the old line times gain b

@@ -7,7 +7,7 @@ use lib.Dec.{leb, ltb}
 use lib.ListN.{length, getD}
 use lib.Ieee.{Float, nan, binary32, mul}
 use Rattle.list_laws.specs.ListOf.{listOf}
-use Rattle.sns_tables.specs.Bands.{limitsOf, bandsOf, lastLimit}
+use Rattle.band_index_tables.specs.Bands.{limitsOf, bandsOf, lastLimit}
 
 -- line i is one of those from a first up to below an end
 abbrev pub inside : ℕ → ℕ → ℕ → Bool

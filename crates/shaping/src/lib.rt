@@ -5,9 +5,9 @@ ghost use mathlib.Core.List.{map};
 ghost use Prim.Native.Nat.{_≤_, _<_};
 ghost use lib.ListN.{length};
 ghost use lib.Ieee.{binary32, mul};
-ghost use Rattle.sns_tables.specs.Bands.{bandsOf, lastLimit};
+ghost use Rattle.band_index_tables.specs.Bands.{bandsOf, lastLimit};
 ghost use Rattle.shaping.specs.Shaping.{Shapeable, scaledPart, shapedOf};
-use sns_tables::band_index_tables::band_limits;
+use band_index_tables::band_limits;
 
 // How many bands a rate and a frame length have.
 pub fn bands_of(rate: u32, ten_ms: bool) -> u32

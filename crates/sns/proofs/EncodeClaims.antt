@@ -11,7 +11,7 @@ use Rattle.float_laws.specs.Bounded.{Bounded}
 use Rattle.factor.specs.Check.{factorLimit}
 use Rattle.factor.proofs.Laws.{within-limit}
 use Rattle.shapes.specs.Sets.{setA, setB}
-use Rattle.sns_tables.specs.Offsets.{sizeOf}
+use Rattle.mpvq_offsets.specs.Offsets.{sizeOf}
 use Rattle.numbering.specs.Numbering.{indexOf, vectorAt}
 use Rattle.numbering.proofs.Claims.{claim}
 use Rattle.decoder_pulses.specs.Pulses.{pulsesAt, Indexed}

@@ -3,7 +3,7 @@ use mathlib.Core.Path.{_≡_, ap}
 use mathlib.Core.Bool.{true, false, not}
 use Prim.Native.Nat.{ℕ, _≤_, _<_}
 use borrow.Author.Tests.{le-leb, lt-leb, eq-eqb, ne-eqb}
-use Rattle.sns_tables.specs.Offsets.{sizeOf}
+use Rattle.mpvq_offsets.specs.Offsets.{sizeOf}
 use Rattle.shapes.specs.Sets.{paired}
 use Rattle.refusals.specs.declared.Answer.the-variants.{Done, No}
 use Rattle.sns_number.specs.Unpack.{unpackQuestions, unpackAnswer}

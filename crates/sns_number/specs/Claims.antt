@@ -5,7 +5,7 @@ use mathlib.Core.List.{List}
 use Prim.Native.Nat.{ℕ, _<_}
 use lib.IntN.{ℤ}
 use lib.ListN.{length}
-use Rattle.sns_tables.specs.Offsets.{sizeOf}
+use Rattle.mpvq_offsets.specs.Offsets.{sizeOf}
 use Rattle.shapes.specs.Sets.{paired}
 use Rattle.numbering.specs.Numbering.{PulseVector, vectorAt}
 use Rattle.refusals.specs.declared.Answer.{Answer}

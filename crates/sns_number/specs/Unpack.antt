@@ -6,7 +6,7 @@ use Prim.Native.Nat.{ℕ}
 use lib.Dec.{leb, eqb}
 use lib.IntN.{ℤ}
 use lib.ListN.{length}
-use Rattle.sns_tables.specs.Offsets.{sizeOf}
+use Rattle.mpvq_offsets.specs.Offsets.{sizeOf}
 use Rattle.shapes.specs.Sets.{paired}
 use Rattle.numbering.specs.Numbering.{vectorAt}
 use Rattle.refusals.specs.declared.Answer.{Answer}

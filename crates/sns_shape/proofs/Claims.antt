@@ -9,7 +9,7 @@ use Rattle.sns_shape.specs.Claims.{ShapePinned, ShapeKeeps, ShapeTaken, 
 use Rattle.refusals.proofs.Answers.{done, both-done}
 use mathlib.Core.Bool.{Bool, true, false, not, _||_, false≢true}
 use lib.Dec.{eqb}
-use Rattle.sns_tables.specs.Bands.{bandsOf}
+use Rattle.band_index_tables.specs.Bands.{bandsOf}
 use Rattle.refusals.specs.Elements.{valueQuestions}
 use Rattle.refusals.proofs.Elements.{values-done, done-values}
 use Rattle.sns_shape.proofs.ShapeAnswers.{by-lines}

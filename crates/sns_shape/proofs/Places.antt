@@ -10,7 +10,7 @@ use lib.Dec.{leb, eqb, leb→le}
 use lib.ListN.{length, take, length-take}
 use lib.Ieee.{Float}
 use Rattle.list_laws.proofs.Every.{at-below}
-use Rattle.sns_tables.specs.Bands.{limitTables, bandsOf, lastLimit}
+use Rattle.band_index_tables.specs.Bands.{limitTables, bandsOf, lastLimit}
 use Rattle.shaping.proofs.Laws.{bands-most}
 use Rattle.interpolation.specs.Bands.{countOk}
 use Rattle.refusals.specs.Answers.{placeOf}

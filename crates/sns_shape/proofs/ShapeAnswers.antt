@@ -7,7 +7,7 @@ use borrow.Author.Tests.{eq-eqb, ne-eqb, lt-ltb, le-ltb}
 use lib.Dec.{eqb}
 use lib.ListN.{length, take}
 use lib.Ieee.{Float}
-use Rattle.sns_tables.specs.Bands.{bandsOf, lastLimit}
+use Rattle.band_index_tables.specs.Bands.{bandsOf, lastLimit}
 use Rattle.interpolation.specs.Bands.{countOk}
 use Rattle.refusals.specs.declared.Answer.{Answer}
 use Rattle.refusals.specs.declared.Answer.the-variants.{Done, No}

@@ -8,7 +8,7 @@ use lib.ListN.{length, take}
 use lib.Ieee.{Float}
 use Rattle.float_laws.specs.Kind.{finite}
 use Rattle.list_laws.specs.Every.{every}
-use Rattle.sns_tables.specs.Bands.{bandsOf, lastLimit}
+use Rattle.band_index_tables.specs.Bands.{bandsOf, lastLimit}
 use Rattle.refusals.specs.declared.Answer.{Answer}
 use Rattle.refusals.specs.declared.Answer.the-variants.{Done}
 use Rattle.sns_shape.specs.Shape.{shapeAnswer, ShapeSays}

@@ -6,7 +6,7 @@ use Prim.Native.Nat.{ℕ}
 use lib.Dec.{eqb, ltb}
 use lib.ListN.{length, take}
 use lib.Ieee.{Float}
-use Rattle.sns_tables.specs.Bands.{bandsOf, lastLimit}
+use Rattle.band_index_tables.specs.Bands.{bandsOf, lastLimit}
 use Rattle.interpolation.specs.Bands.{countOk}
 use Rattle.shaping.specs.Shaping.{shapedOf}
 use Rattle.refusals.specs.declared.Answer.{Answer}

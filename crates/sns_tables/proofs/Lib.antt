@@ -1,5 +1,3 @@
-pub mod Offsets
-pub mod Bands
 pub mod Sizes
 pub mod ByPlace
 pub mod Codes

@@ -1,20 +1,9 @@
 -- What is proved of the tables, a line a claim. Definitions only: each is proved in proofs/, in the file that its comment names.
 use Prim.Native.Nat.{ℕ, _<_}
-use mathlib.Core.Bool.{Bool}
 use Rattle.float_laws.specs.Size.{Within}
 use Rattle.sns_tables.specs.Codebooks.{lfcbRows, hfcbRows, codeAt}
 use Rattle.sns_tables.specs.Rotation.{dAt}
 use Rattle.sns_tables.specs.Gains.{gainsOf, gainAt}
-use Rattle.sns_tables.specs.Offsets.{offsetTable, Obeys}
-use Rattle.sns_tables.specs.Bands.{Limits}
-
--- the offset table obeys its recurrence at every entry (Offsets)
-abbrev pub OffsetsObey : Type 0
-OffsetsObey = Obeys offsetTable
-
--- the ten band limit tables start at 0, rise, and have 60 or 64 bands (Bands)
-abbrev pub LimitsSound : Type 0
-LimitsSound = (rate : ℕ) (ten : Bool) → rate < 5 → Limits rate ten
 
 -- no code is over 5 in size (Sizes)
 abbrev pub LowCodesSmall : Type 0

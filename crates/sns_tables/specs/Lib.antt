@@ -3,6 +3,4 @@ pub mod ByPlace
 pub mod Codes
 pub mod Rotation
 pub mod Gains
-pub mod Offsets
-pub mod Bands
 pub mod Claims

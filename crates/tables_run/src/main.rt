@@ -1,8 +1,8 @@
 // Writes every table: floats by their bits, whole numbers in decimal. The file stdout beside src/ is what the Rust's own
 // tables give (tests/tables/record.sh), so the two are equal bit for bit.
+use band_index_tables::band_limits;
 use libc::STDOUT_FILENO;
-use sns_tables::band_index_tables as bands;
-use sns_tables::mpvq_offsets::mpvq_offset;
+use mpvq_offsets::mpvq_offset;
 use sns_tables::spec_noise_shape_quant_tables as tables;
 
 fn end_line() {
@@ -85,7 +85,7 @@ fn print_limits(limits: &[usize; 65]) {
 fn print_all_limits(ten_ms: bool) {
     let mut rate = 0;
     while rate < 5 {
-        print_limits(&bands::band_limits(rate, ten_ms));
+        print_limits(&band_limits(rate, ten_ms));
         rate += 1;
     }
 }

@@ -1,5 +1,5 @@
 -- 60 gains, and 61 lines for a last limit of 60: computed.
-use Rattle.sns_tables.specs.Bands.{bandsOf, limitTables}
+use Rattle.band_index_tables.specs.Bands.{bandsOf, limitTables}
 use mathlib.Core.Path.{refl}
 use lib.Dec.{lit<, lit≤}
 use borrow.Author.Needs.{needs}

@@ -1,6 +1,6 @@
 -- Each input is accepted: computed.
 use Rattle.sns_tables.specs.Gains.{gainRows, gainsOf}
-use Rattle.sns_tables.specs.Offsets.{sizeOf, offsetOf}
+use Rattle.mpvq_offsets.specs.Offsets.{sizeOf, offsetOf}
 use Prim.Native.Nat.{ℕ}
 use lib.Dec.{T, ltb, lit<}
 use Rattle.shapes.specs.Sets.{setA, setB}

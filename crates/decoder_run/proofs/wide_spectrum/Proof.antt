@@ -1,5 +1,5 @@
 -- 64 gains, and 82 lines for a last limit of 80: computed.
-use Rattle.sns_tables.specs.Bands.{bandsOf, limitTables}
+use Rattle.band_index_tables.specs.Bands.{bandsOf, limitTables}
 use mathlib.Core.Path.{refl}
 use lib.Dec.{lit<, lit≤}
 use lib.Ieee.{nanBits}

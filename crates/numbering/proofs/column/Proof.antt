@@ -4,8 +4,8 @@ use mathlib.Core.Logic.{⊎-elim}
 use Prim.Native.Nat.{suc, _-_, _<_}
 use borrow.Author.Needs.{needs}
 use native.Mathlib.Omega.{arith}
-use Rattle.sns_tables.specs.Offsets.{offsetOf}
-use Rattle.sns_tables.proofs.Offsets.{at-place}
+use Rattle.mpvq_offsets.specs.Offsets.{offsetOf}
+use Rattle.mpvq_offsets.proofs.Offsets.{at-place}
 use Rattle.numbering.specs.Numbering.{columnOf}
 use Rattle.numbering.proofs.Offsets.{mono}
 use Rattle.numbering.proofs.Columns.{column-falls, Found, found-here, found-next, left-is}

@@ -3,7 +3,7 @@ use mathlib.Core.Path.{_≡_, sym}
 use Prim.Native.Nat.{_+_, _/_, _≤_, _<_}
 use borrow.Author.Needs.{needs}
 use native.Mathlib.Omega.{arith}
-use Rattle.sns_tables.specs.Offsets.{offsetOf}
+use Rattle.mpvq_offsets.specs.Offsets.{offsetOf}
 use Rattle.numbering.specs.Numbering.{columnOf}
 use Rattle.numbering.proofs.Offsets.{first}
 use Rattle.numbering.proofs.Columns.{column-from, column-under, column-within, left-is}

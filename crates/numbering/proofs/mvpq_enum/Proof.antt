@@ -9,7 +9,7 @@ use lib.Seq.{drop-length}
 use mir.Syntax.{w32}
 use mir.Val.{toZ, ofZ}
 use mir.Facts.{toZ-ofZ}
-use Rattle.sns_tables.specs.Offsets.{offsetOf}
+use Rattle.mpvq_offsets.specs.Offsets.{offsetOf}
 use Rattle.numbering.specs.Numbering.{pulsesOf, signBefore, leadSign, pushed, indexOf}
 use Rattle.numbering.proofs.Bijection.{pushed-most}
 use Rattle.numbering.proofs.Suffix.{fewer, more-index, more-sign, more-pulses, more-fits}

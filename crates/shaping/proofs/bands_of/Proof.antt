@@ -2,7 +2,7 @@
 use mathlib.Core.Path.{_≡_, refl}
 use mathlib.Core.Bool.{Bool, true, false}
 use Prim.Native.Nat.{ℕ, zero, suc}
-use Rattle.sns_tables.specs.Bands.{bandsOf}
+use Rattle.band_index_tables.specs.Bands.{bandsOf}
 use Rattle.shaping.proofs.bands_of.Statement.{statement}
 use Rattle.shaping.proofs.bands_of.Tie as tie
 

@@ -7,7 +7,7 @@ use lib.ListN.{length, getD}
 use lib.Ieee.{nan}
 use Rattle.list_laws.specs.ListOf.{listOf}
 use Rattle.list_laws.proofs.ListOf.{length-listOf}
-use Rattle.sns_tables.specs.Bands.{limitsOf, bandsOf}
+use Rattle.band_index_tables.specs.Bands.{limitsOf, bandsOf}
 use Rattle.shaping.proofs.Laws.{bands-most, limit-at, rises-to, band-more, band-none}
 use Rattle.shaping.specs.Shaping.{shapedLine}
 use borrow.Author.Needs.{needs}

@@ -7,7 +7,7 @@ use mathlib.Core.List.{List}
 use Prim.Native.Nat.{ℕ, _-_, _≤_, _<_}
 use lib.ListN.{take, drop}
 use lib.Ieee.{Float}
-use Rattle.sns_tables.specs.Bands.{lastLimit}
+use Rattle.band_index_tables.specs.Bands.{lastLimit}
 use Rattle.factor.specs.Check.{firstNotFinite}
 use Rattle.refusals.proofs.Elements.{refused-value, values-taken}
 use Rattle.sns_shape.proofs.ShapeAnswers.{Fitting, no-10, no-11, no-9-gains, no-9-lines, by-gains, by-lines}

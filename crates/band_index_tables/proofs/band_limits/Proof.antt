@@ -5,9 +5,9 @@ use mathlib.Core.List.{List}
 use Prim.Native.Nat.{ℕ}
 use native.Mathlib.Omega.{arith}
 use Rattle.list_laws.specs.ListOf.{listOf}
-use Rattle.sns_tables.specs.Bands.{limitTables, limitsOf, handedOut}
-use Rattle.sns_tables.proofs.band_index_tables.band_limits.Statement.{statement}
-use Rattle.sns_tables.proofs.band_index_tables.band_limits.Tie as tie
+use Rattle.band_index_tables.specs.Bands.{limitTables, limitsOf, handedOut}
+use Rattle.band_index_tables.proofs.band_limits.Statement.{statement}
+use Rattle.band_index_tables.proofs.band_limits.Tie as tie
 
 -- the arm of rate k and frame length b
 arm : (rate k : ℕ) (ten b : Bool) (l : List ℕ) → ten ≡ b → rate ≡ k → l ≡ handedOut (limitsOf k b) → l ≡ handedOut (limitsOf rate ten)

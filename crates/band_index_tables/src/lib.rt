@@ -1,7 +1,7 @@
 // The band limits, a table for each rate and frame length.
 ghost use mathlib.Core.Path.{_≡_};
 ghost use Prim.Native.Nat.{_<_};
-ghost use Rattle.sns_tables.specs.Bands.{limitsOf, handedOut};
+ghost use Rattle.band_index_tables.specs.Bands.{limitsOf, handedOut};
 
 const I_8000_10MS: [usize; 65] = [
     0,

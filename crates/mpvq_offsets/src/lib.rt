@@ -2,7 +2,7 @@
 // would be stored on the stack at each call.
 ghost use mathlib.Core.Path.{_≡_};
 ghost use Prim.Native.Nat.{_<_, _/_, _%_};
-ghost use Rattle.sns_tables.specs.Offsets.{offsetOf};
+ghost use Rattle.mpvq_offsets.specs.Offsets.{offsetOf};
 
 // A(n,k): row n, column k.
 pub fn mpvq_offset(n: usize, k: usize) -> u32

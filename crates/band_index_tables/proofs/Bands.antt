@@ -9,8 +9,8 @@ use borrow.Author.Tests.{lt-ltb, le-ltb}
 use lib.ListN.{length, getD}
 use Rattle.list_laws.specs.Every.{both, everyBelow, everyFrom}
 use Rattle.list_laws.proofs.Every.{both-left, both-right, at-below, at-place}
-use Rattle.sns_tables.specs.Bands.{limitTables, tableNumber, limitsOf, bandsOf}
-use Rattle.sns_tables.specs.Claims.{LimitsSound}
+use Rattle.band_index_tables.specs.Bands.{limitTables, tableNumber, limitsOf, bandsOf}
+use Rattle.band_index_tables.specs.Claims.{LimitsSound}
 
 -- the bands of table k
 bandsAt : ℕ → ℕ

@@ -10,8 +10,8 @@ use Rattle.list_laws.specs.Every.{gridFrom}
 use Rattle.list_laws.specs.ListOf.{listOf}
 use Rattle.list_laws.proofs.Every.{at-grid}
 use Rattle.list_laws.proofs.ListOf.{getD-listOf}
-use Rattle.sns_tables.specs.Offsets.{offsetOf, offsetTable, entryOf}
-use Rattle.sns_tables.specs.Claims.{OffsetsObey}
+use Rattle.mpvq_offsets.specs.Offsets.{offsetOf, offsetTable, entryOf}
+use Rattle.mpvq_offsets.specs.Claims.{OffsetsObey}
 
 -- the constants of the code, row by row
 unfoldable pub offsetRows : List (List ℕ)

@@ -3,9 +3,9 @@ use mathlib.Core.Path.{_≡_, refl}
 use Prim.Native.Nat.{ℕ, zero, suc, _≤_}
 use borrow.Author.Needs.{needs}
 use native.Mathlib.Omega.{arith}
-use Rattle.sns_tables.proofs.Offsets.{offsetRows, arm}
-use Rattle.sns_tables.proofs.mpvq_offsets.offset_at.Statement.{statement}
-use Rattle.sns_tables.proofs.mpvq_offsets.offset_at.Tie as tie
+use Rattle.mpvq_offsets.proofs.Offsets.{offsetRows, arm}
+use Rattle.mpvq_offsets.proofs.offset_at.Statement.{statement}
+use Rattle.mpvq_offsets.proofs.offset_at.Tie as tie
 
 -- the `_` arm knows that the place is none of those before it, so it is the last
 abbrev Others : ℕ → ℕ → Type 0

@@ -2,9 +2,9 @@
 use mathlib.Core.Path.{refl, _∙_}
 use borrow.Author.Needs.{needs}
 use native.Mathlib.Omega.{arith}
-use Rattle.sns_tables.proofs.Offsets.{at-place}
-use Rattle.sns_tables.proofs.mpvq_offsets.mpvq_offset.Statement.{statement}
-use Rattle.sns_tables.proofs.mpvq_offsets.mpvq_offset.Tie as tie
+use Rattle.mpvq_offsets.proofs.Offsets.{at-place}
+use Rattle.mpvq_offsets.proofs.mpvq_offset.Statement.{statement}
+use Rattle.mpvq_offsets.proofs.mpvq_offset.Tie as tie
 
 mul-offset-at : tie.Need-mul-offset-at
 mul-offset-at c = search needs
