@@ -11,11 +11,11 @@ use lib.ListN.{getD}
 use lib.Ieee.{Float, nan, binary32, ofInt, neg, div, lt}
 use Rattle.float_laws.proofs.Whole.{int-neg}
 use Rattle.float_laws.specs.Scan.{leastTo}
+use Rattle.float_laws.specs.Literal.{nought}
 use Rattle.list_laws.specs.ListOf.{listOf}
 use Rattle.list_laws.proofs.ListOf.{getD-listOf}
 use Rattle.roots.specs.Root.{rootOf}
 use Rattle.sns_tables.specs.Gains.{gainAt}
-use Rattle.shape_search.specs.Projection.{nought}
 use Rattle.pulse_search.specs.Pulse.{squareTo}
 use Rattle.candidates.specs.Candidate.{signedOf, signedAt, lengthOf, distortionOf}
 use Rattle.candidates.specs.Scan.{choices, choiceAt, gainOf, distortionAt, winnerOf}

@@ -20,13 +20,13 @@ use Rattle.float_laws.proofs.NoNan.{square-plain, sub-no-nan, finite-no-nan, pl
 use Rattle.float_laws.proofs.Running.{sum-plain}
 use Rattle.float_laws.proofs.Scan.{least-first}
 use Rattle.float_laws.proofs.Size.{within-finite, within-up, mul-within, whole-exact}
+use Rattle.float_laws.specs.Literal.{nought, squared}
 use Rattle.list_laws.proofs.ListOf.{getD-listOf}
 use Rattle.roots.proofs.Unit.{unit}
 use Rattle.sns_tables.proofs.Sizes.{gain-within}
-use Rattle.shape_search.specs.Projection.{nought}
 use Rattle.pulse_search.specs.Pulse.{squareTo}
 use Rattle.pulse_search.proofs.Sums.{sum-place}
-use Rattle.candidates.specs.Candidate.{signedOf, signedAt, lengthOf, candidateOf, squared, distortionOf}
+use Rattle.candidates.specs.Candidate.{signedOf, signedAt, lengthOf, candidateOf, distortionOf}
 use Rattle.candidates.specs.Scan.{choices, choiceAt, gainOf, distortionAt, winnerOf}
 use Rattle.candidates.specs.Claims.{Units, NoNan, WinnerFirst, WinnerOnly}
 use Rattle.candidates.proofs.Choices.{choices-are, choice-shape, choice-gain}

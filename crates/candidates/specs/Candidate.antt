@@ -6,9 +6,9 @@ use lib.IntN.{ℤ, pos, negsuc}
 use lib.ListN.{getD}
 use lib.Ieee.{Float, nan, binary32, ofInt, sub, mul, div, lt}
 use Rattle.float_laws.specs.Running.{sumTo}
+use Rattle.float_laws.specs.Literal.{nought, squared}
 use Rattle.list_laws.specs.ListOf.{listOf}
 use Rattle.roots.specs.Root.{rootOf}
-use Rattle.shape_search.specs.Projection.{nought}
 use Rattle.pulse_search.specs.Pulse.{squareTo}
 
 -- d pulses, below zero where the test is true
@@ -28,9 +28,6 @@ lengthOf y = rootOf (squareTo y 16)
 -- A candidate is y divided by its length, place by place.
 unfoldable pub candidateOf : List Float → List ℕ → List Float
 candidateOf t y = listOf 16 (λ n. div binary32 (ofInt binary32 (signedAt t y n)) (lengthOf y))
-
-abbrev pub squared : Float → Float
-squared x = mul binary32 x x
 
 -- Its distortion is the sum, from 0.0, of the squares of (t minus gain times candidate) over 16 places.
 unfoldable pub distortionOf : List Float → List Float → Float → Float

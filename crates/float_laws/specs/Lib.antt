@@ -1,6 +1,8 @@
 pub mod Kind
 pub mod Size
 pub mod Decimal
+pub mod Literal
+pub mod Fraction
 pub mod Absolute
 pub mod Least
 pub mod Running

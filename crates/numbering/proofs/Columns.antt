@@ -1,6 +1,6 @@
 -- The column found: the greatest, from k down, whose offset is at most the index. Assumes nothing.
 use mathlib.Core.Path.{_≡_, refl, sym, _∙_}
-use mathlib.Core.Bool.{Bool, true, false}
+use mathlib.Core.Bool.{Bool, true, false, cond}
 use mathlib.Core.Logic.{_⊎_, inl, inr}
 use Prim.Native.Nat.{ℕ, zero, suc, _-_, _≤_, _<_}
 use native.Mathlib.Nat.{eq-or-lt-of-le}
@@ -8,7 +8,7 @@ use native.Mathlib.Omega.{arith}
 use borrow.Author.Tests.{leb-true, leb-false}
 use lib.Dec.{leb}
 use Rattle.mpvq_offsets.specs.Offsets.{offsetOf}
-use Rattle.numbering.specs.Numbering.{choose, columnOf}
+use Rattle.numbering.specs.Numbering.{columnOf}
 use Rattle.numbering.proofs.Offsets.{first, mono, above-zero}
 
 pub record Column (n m i k : ℕ) : Type 0 where
@@ -22,7 +22,7 @@ column n zero i = record { within = omega arith; low = omega (arith, first n); h
 column n (suc m) i = go (leb (offsetOf n (suc m)) i) refl (column n m i)
   where
     go : (b : Bool) → leb (offsetOf n (suc m)) i ≡ b → Column n m i (columnOf n m i)
-        → Column n (suc m) i (choose b (suc m) (columnOf n m i))
+        → Column n (suc m) i (cond b (suc m) (columnOf n m i))
     go true e c = record { within = omega arith; low = leb-true _ _ e; high = λ h. omega arith }
     go false e c = record { within = omega arith; low = c .low; high = λ h. last (eq-or-lt-of-le (c .within)) }
       where

@@ -1,6 +1,6 @@
 -- The laws of single pulses. Assumes nothing.
 use mathlib.Core.Path.{_≡_, refl, sym, ap, _∙_}
-use mathlib.Core.Bool.{Bool, true, false}
+use mathlib.Core.Bool.{Bool, true, false, cond}
 use mathlib.Core.List.{List}
 use Prim.Native.Nat.{ℕ, zero, suc, _+_, _-_, _≤_, _<_}
 use native.Mathlib.Nat.{le-refl, le-trans, le-suc}
@@ -9,7 +9,6 @@ use native.Mathlib.Omega.{arith}
 use borrow.Author.Needs.{read-above}
 use lib.ListN.{length, getD, set, length-set}
 use lib.Ieee.{Float}
-use Rattle.float_laws.specs.Scan.{choose}
 use Rattle.pulse_search.specs.declared.SearchRecord.{SearchRecord}
 use Rattle.pulse_search.specs.Pulse.{pairAt, replaces, bestTo, Search, start, onePulse, more, totalTo}
 use Rattle.pulse_search.proofs.Sums.{place-le, total-one}
@@ -19,24 +18,24 @@ pub best-zero : (a : List Float) (y : List ℕ) (r : SearchRecord) → 0 ≡ bes
 unfolding bestTo
 best-zero a y r = refl
 
-best-suc : (a : List Float) (y : List ℕ) (r : SearchRecord) (n : ℕ) → choose (replaces (pairAt a y r (suc n)) (pairAt a y r (bestTo a y r n))) (suc n) (bestTo a y r n) ≡ bestTo a y r (suc n)
+best-suc : (a : List Float) (y : List ℕ) (r : SearchRecord) (n : ℕ) → cond (replaces (pairAt a y r (suc n)) (pairAt a y r (bestTo a y r n))) (suc n) (bestTo a y r n) ≡ bestTo a y r (suc n)
 unfolding bestTo
 best-suc a y r n = refl
 
 module _ (a : List Float) (y : List ℕ) (r : SearchRecord) (n b : ℕ) (e : b ≡ bestTo a y r n) (p t : SearchRecord) (h : p ≡ pairAt a y r (n + 1)) (k : t ≡ pairAt a y r b) where
   pub best-move : replaces p t ≡ true → n + 1 ≡ bestTo a y r (n + 1)
-  best-move w = rw add-one (ap (λ (z : Bool). choose z (suc n) (bestTo a y r n)) (sym (same ∙ w)) ∙ best-suc a y r n)
+  best-move w = rw add-one (ap (λ (z : Bool). cond z (suc n) (bestTo a y r n)) (sym (same ∙ w)) ∙ best-suc a y r n)
     where
       same : replaces (pairAt a y r (suc n)) (pairAt a y r (bestTo a y r n)) ≡ replaces p t
       same = rw (h, k, e, add-one)
 
   pub best-keep : replaces p t ≡ false → b ≡ bestTo a y r (n + 1)
-  best-keep w = rw add-one (e ∙ ap (λ (z : Bool). choose z (suc n) (bestTo a y r n)) (sym (same ∙ w)) ∙ best-suc a y r n)
+  best-keep w = rw add-one (e ∙ ap (λ (z : Bool). cond z (suc n) (bestTo a y r n)) (sym (same ∙ w)) ∙ best-suc a y r n)
     where
       same : replaces (pairAt a y r (suc n)) (pairAt a y r (bestTo a y r n)) ≡ replaces p t
       same = rw (h, k, e, add-one)
 
-choose-le : (z : Bool) (n b : ℕ) → b ≤ n → choose z (suc n) b ≤ suc n
+choose-le : (z : Bool) (n b : ℕ) → b ≤ n → cond z (suc n) b ≤ suc n
 choose-le true n b h = le-refl (suc n)
 choose-le false n b h = le-trans h (le-suc n)
 

@@ -1,7 +1,7 @@
 -- A place that strictly beats every other is the one that the scan takes: by the asymmetry of `<` alone. Assumes nothing.
 use mathlib.Core.Path.{_≡_, refl, sym, ap, _∙_, subst}
 use mathlib.Core.Logic.{inl, inr}
-use mathlib.Core.Bool.{Bool, true, false}
+use mathlib.Core.Bool.{Bool, true, false, cond}
 use mathlib.Core.List.{List}
 use Prim.Native.Nat.{ℕ, zero, suc, _+_, _≤_, _<_}
 use native.Mathlib.Nat.{le-refl, le-trans, le-suc, le-of-suc-le-suc, eq-or-lt-of-le, not-suc-le-zero}
@@ -11,12 +11,12 @@ use borrow.Author.Tests.{le-leb, not-true, not-false}
 use lib.Dec.{T, leb}
 use lib.ListN.{getD}
 use lib.Ieee.{Float, nan, binary32, ofBits, add, mul, lt}
-use Rattle.float_laws.specs.Scan.{choose}
 use Rattle.float_laws.proofs.Logic.{yes}
 use Rattle.float_laws.proofs.Order.{lt-asym, lt-irrefl}
+use Rattle.float_laws.specs.Literal.{one, two, squared}
 use Rattle.list_laws.proofs.ListOf.{getD-listOf}
 use Rattle.pulse_search.specs.declared.SearchRecord.{SearchRecord}
-use Rattle.pulse_search.specs.Pulse.{one, two, amount, square, pairAt, replaces, bestTo}
+use Rattle.pulse_search.specs.Pulse.{amount, pairAt, replaces, bestTo}
 use Rattle.pulse_search.specs.Lanes.{upToLast, firstOf, squaresOf, energiesOf, unbeatenBy, oneIf, countTo}
 use Rattle.pulse_search.proofs.Laws.{best-le}
 
@@ -110,14 +110,14 @@ module _ (a : List Float) (y : List ℕ) (r : SearchRecord) (last g : ℕ) (w : 
   stands (suc m) h l =
       elim (eq-or-lt-of-le l) [
         | inl e ↦
-            ap (λ (b : Bool). choose b (suc m) (bestTo a y r m))
+            ap (λ (b : Bool). cond b (suc m) (bestTo a y r m))
             (subst (λ (k : ℕ). replaces (pairAt a y r k) (pairAt a y r (bestTo a y r m)) ≡ true) e
             (w (bestTo a y r m) (le-trans (best-le a y r m) (le-trans (le-suc m) h)) (below (bestTo a y r m) (best-le a y r m) e)))
             ∙ sym e
         | inr i ↦
             let b : bestTo a y r m ≡ g = stands m (le-trans (le-suc m) h) (le-of-suc-le-suc i) in
-            ap (λ (k : ℕ). choose (replaces (pairAt a y r (suc m)) (pairAt a y r k)) (suc m) k) b
-            ∙ ap (λ (z : Bool). choose z (suc m) g) (beaten-stays (suc m) h (above i))
+            ap (λ (k : ℕ). cond (replaces (pairAt a y r (suc m)) (pairAt a y r k)) (suc m) k) b
+            ∙ ap (λ (z : Bool). cond z (suc m) g) (beaten-stays (suc m) h (above i))
       ]
     where
       below : (b : ℕ) → b ≤ m → g ≡ suc m → b ≡ g → ⊥
@@ -131,12 +131,12 @@ module _ (a : List Float) (y : List ℕ) (r : SearchRecord) (last g : ℕ) (w : 
 
 -- ---- what the lanes hold
 module _ (a : List Float) (y : List ℕ) (r : SearchRecord) (last : ℕ) (l : last < 16) where
-  lane-square : (n : ℕ) → n ≤ last → getD (squaresOf (firstOf a last) (r .correlation)) n nan ≡ square (pairAt a y r n .correlation)
+  lane-square : (n : ℕ) → n ≤ last → getD (squaresOf (firstOf a last) (r .correlation)) n nan ≡ squared (pairAt a y r n .correlation)
   unfolding squaresOf firstOf pairAt upToLast
   lane-square n h =
       let i : n < 16 = omega arith in
-      getD-listOf 16 (λ n. square (add binary32 (r .correlation) (getD (firstOf a last) n nan))) nan n i
-      ∙ ap (λ (x : Float). square (add binary32 (r .correlation) x)) (getD-listOf 16 (λ n. upToLast (leb n last) (getD a n nan)) nan n i ∙ ap (λ (b : Bool). upToLast b (getD a n nan)) (le-leb n last h))
+      getD-listOf 16 (λ n. squared (add binary32 (r .correlation) (getD (firstOf a last) n nan))) nan n i
+      ∙ ap (λ (x : Float). squared (add binary32 (r .correlation) x)) (getD-listOf 16 (λ n. upToLast (leb n last) (getD a n nan)) nan n i ∙ ap (λ (b : Bool). upToLast b (getD a n nan)) (le-leb n last h))
 
   lane-energy : (n : ℕ) → n ≤ last → getD (energiesOf y (r .energy)) n nan ≡ pairAt a y r n .energy
   unfolding energiesOf pairAt

@@ -7,7 +7,8 @@ use lib.IntN.{pos}
 use lib.ListN.{length, getD, set}
 use lib.Ieee.{Float, nan, binary32, ofInt, add, le}
 use Rattle.float_laws.specs.Size.{exact}
-use Rattle.pulse_search.specs.Pulse.{one, pairAt, bestTo, Search, start, more, totalTo, squareTo}
+use Rattle.float_laws.specs.Literal.{one}
+use Rattle.pulse_search.specs.Pulse.{pairAt, bestTo, Search, start, more, totalTo, squareTo}
 
 -- The pair belongs to the pulses placed: its energy is the sum of the squares of the pulses, a whole number that f32 holds exactly, and so
 -- never below 1 once a pulse stands.

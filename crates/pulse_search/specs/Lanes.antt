@@ -6,7 +6,8 @@ use lib.Dec.{leb}
 use lib.ListN.{getD}
 use lib.Ieee.{Float, nan, binary32, ofBits, add, mul, lt}
 use Rattle.list_laws.specs.ListOf.{listOf}
-use Rattle.pulse_search.specs.Pulse.{one, two, amount, square}
+use Rattle.pulse_search.specs.Pulse.{amount}
+use Rattle.float_laws.specs.Literal.{one, two, squared}
 
 -- the absolute value of a place up to last, and zero past it
 unfoldable pub upToLast : Bool → Float → Float
@@ -18,7 +19,7 @@ firstOf a last = listOf 16 (λ n. upToLast (leb n last) (getD a n nan))
 
 -- c·c of each place
 unfoldable pub squaresOf : List Float → Float → List Float
-squaresOf a correlation = listOf 16 (λ n. square (add binary32 correlation (getD a n nan)))
+squaresOf a correlation = listOf 16 (λ n. squared (add binary32 correlation (getD a n nan)))
 
 -- e of each place
 unfoldable pub energiesOf : List ℕ → Float → List Float

@@ -1,18 +1,12 @@
 -- One pulse, and single pulses one after another. Definitions only.
-use mathlib.Core.Bool.{Bool}
+use mathlib.Core.Bool.{Bool, cond}
 use mathlib.Core.List.{List}
 use Prim.Native.Nat.{ℕ, zero, suc, _+_, _-_, _*_}
 use lib.IntN.{pos}
 use lib.ListN.{getD, set}
 use lib.Ieee.{Float, nan, binary32, ofBits, ofInt, add, mul, lt}
-use Rattle.float_laws.specs.Scan.{choose}
+use Rattle.float_laws.specs.Literal.{one, two, squared}
 use Rattle.pulse_search.specs.declared.SearchRecord.{SearchRecord}
-
-abbrev pub one : Float
-one = ofBits binary32 1065353216
-
-abbrev pub two : Float
-two = ofBits binary32 1073741824
 
 -- a place's pulses as a float
 abbrev pub amount : List ℕ → ℕ → Float
@@ -25,20 +19,16 @@ pairAt a y r n = record {
   energy = add binary32 (add binary32 (r .energy) (mul binary32 two (amount y n))) one;
 }
 
--- c·c
-abbrev pub square : Float → Float
-square x = mul binary32 x x
-
 -- Place n replaces the best if (c·c)·e_best > (c·c)_best·e.
 unfoldable pub replaces : SearchRecord → SearchRecord → Bool
-replaces p best = lt (mul binary32 (square (best .correlation)) (p .energy)) (mul binary32 (square (p .correlation)) (best .energy))
+replaces p best = lt (mul binary32 (squared (best .correlation)) (p .energy)) (mul binary32 (squared (p .correlation)) (best .energy))
 
 -- One pulse: start with place 0, then scan upward, to place n. Ties keep the earlier place.
 unfoldable pub bestTo : List Float → List ℕ → SearchRecord → ℕ → ℕ
 bestTo a y r zero = 0
 bestTo a y r (suc n) =
     let best = bestTo a y r n in
-    choose (replaces (pairAt a y r (suc n)) (pairAt a y r best)) (suc n) best
+    cond (replaces (pairAt a y r (suc n)) (pairAt a y r best)) (suc n) best
 
 -- the pulses of a search, and the pair that the running search record holds
 pub record Search : Type 0 where

@@ -11,7 +11,7 @@ use lib.Dec.{T, ltb, leb, eqb, ltb→lt, lit<}
 use lib.IntN.{ℤ, pos, negsuc}
 use lib.Ieee.{Float, nan, inf, fin, binary32, up, down, low, emax, lt, fits}
 use lib.Ieee.Fits.{and-l, and-r}
-use Rattle.roots.specs.Root.{numerator, denominator, positive}
+use Rattle.float_laws.specs.Fraction.{numerator, denominator, positive}
 
 -- a significand has at most 24 binary digits
 digits : (s : Bool) (m : ℕ) (e : ℤ) → T (fits binary32 (fin s m e)) → m < 2 ^ 24

@@ -12,9 +12,10 @@ use lib.Ieee.{Float, nan, inf, fin, binary32, ofBits, fits, lt}
 use lib.Ieee.Fits.{down-pos}
 use lib.Ieee.Bits.{ofBits-fits}
 use Rattle.float_laws.proofs.Logic.{or-split}
+use Rattle.float_laws.specs.Fraction.{numerator, denominator, positive}
 use Rattle.list_laws.specs.Every.{both, everyFrom}
 use Rattle.list_laws.proofs.Every.{both-left, both-right, at-place}
-use Rattle.roots.specs.Root.{numerator, denominator, positive, joint, over, Below, Above, Nearest, rootBits, rootOf}
+use Rattle.roots.specs.Root.{joint, over, Below, Above, Nearest, rootBits, rootOf}
 use Rattle.roots.specs.Claims.{RootNearest}
 use Rattle.roots.proofs.Gaps.{Placed, units, scaled-under, cross, next-below, next-above}
 

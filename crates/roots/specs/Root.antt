@@ -1,26 +1,10 @@
 -- The f32 nearest to the square root of a whole number from 1 to 101, by comparing whole-number squares. Definitions only.
-use mathlib.Core.Bool.{Bool, false, not}
 use mathlib.Core.List.{List, [], _∷_, map}
 use Prim.Native.Nat.{ℕ, _+_, _-_, _*_, _<_}
 use lib.Dec.{T}
 use lib.ListN.{getD}
-use lib.Ieee.{Float, nan, inf, fin, binary32, ofBits, up, down, fits, lt}
-
--- a finite value that is not below zero is numerator / denominator
-abbrev pub numerator : Float → ℕ
-numerator nan = 0
-numerator (inf s) = 0
-numerator (fin s m e) = m * up e
-
-abbrev pub denominator : Float → ℕ
-denominator nan = 1
-denominator (inf s) = 1
-denominator (fin s m e) = down e
-
-abbrev pub positive : Float → Bool
-positive nan = false
-positive (inf s) = false
-positive (fin s m e) = not s
+use lib.Ieee.{Float, binary32, ofBits, fits, lt}
+use Rattle.float_laws.specs.Fraction.{numerator, denominator, positive}
 
 -- x + y, as a fraction over the product of the two denominators: twice their midpoint
 abbrev pub joint : Float → Float → ℕ

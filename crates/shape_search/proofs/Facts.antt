@@ -1,6 +1,6 @@
 -- How many pulses each shape has, for every a, and its squared length. Assumes nothing.
 use mathlib.Core.Path.{_≡_, refl, sym, ap, _∙_, subst}
-use mathlib.Core.Bool.{Bool, true, false, not, _||_}
+use mathlib.Core.Bool.{Bool, true, false, not, _||_, cond}
 use mathlib.Core.List.{List}
 use Prim.Native.Nat.{ℕ, zero, suc, _+_, _-_, _*_, _≤_, _<_}
 use native.Mathlib.Nat.{le-refl, le-trans, le-of-eq}
@@ -9,7 +9,6 @@ use borrow.Author.Tests.{lt-ltb, le-ltb}
 use lib.Dec.{T, ltb, nltb→le, lit<, lit≤}
 use lib.ListN.{length, getD, length-set}
 use lib.Ieee.{Float, nan, lt}
-use Rattle.float_laws.specs.Scan.{choose}
 use Rattle.list_laws.specs.ListOf.{listOf}
 use Rattle.list_laws.proofs.ListOf.{length-listOf, getD-listOf}
 use Rattle.pulse_search.specs.Pulse.{Search, start, sumOver, totalTo, squareTo, missing, upTo}
@@ -45,7 +44,7 @@ projection-total a =
 
 pub length-lowOf : (y : List ℕ) → length (lowOf y) ≡ 16
 unfolding lowOf
-length-lowOf y = length-listOf 16 (λ n. choose (ltb n 10) (getD y n 0) 0)
+length-lowOf y = length-listOf 16 (λ n. cond (ltb n 10) (getD y n 0) 0)
 
 -- ---- going on up to k
 up-length : (a : List Float) (m k : ℕ) (s : Search) → length (upTo a m k s .pulses) ≡ length (s .pulses)
@@ -76,11 +75,11 @@ two-total a = up-total a 15 8 (shape3 a) (le-of-eq (sym (three-length a))) (le-t
 -- ---- the places kept
 low-below : (y : List ℕ) (i : ℕ) → i < 10 → getD (lowOf y) i 0 ≡ getD y i 0
 unfolding lowOf
-low-below y i h = getD-listOf 16 (λ n. choose (ltb n 10) (getD y n 0) 0) 0 i (le-trans h (lit≤ tt)) ∙ ap (λ (b : Bool). choose b (getD y i 0) 0) (lt-ltb i 10 h)
+low-below y i h = getD-listOf 16 (λ n. cond (ltb n 10) (getD y n 0) 0) 0 i (le-trans h (lit≤ tt)) ∙ ap (λ (b : Bool). cond b (getD y i 0) 0) (lt-ltb i 10 h)
 
 low-above : (y : List ℕ) (i : ℕ) → 10 ≤ i → i < 16 → getD (lowOf y) i 0 ≡ 0
 unfolding lowOf
-low-above y i h k = getD-listOf 16 (λ n. choose (ltb n 10) (getD y n 0) 0) 0 i k ∙ ap (λ (b : Bool). choose b (getD y i 0) 0) (le-ltb i 10 h)
+low-above y i h k = getD-listOf 16 (λ n. cond (ltb n 10) (getD y n 0) 0) 0 i k ∙ ap (λ (b : Bool). cond b (getD y i 0) 0) (le-ltb i 10 h)
 
 pub low-sum : (f : ℕ → ℕ) (y : List ℕ) → sumOver f (lowOf y) 10 ≡ sumOver f y 10
 low-sum f y = sum-same f (lowOf y) y 10 (low-below y)
@@ -125,7 +124,7 @@ pub one-total : (a : List Float) → totalTo (shape1 a .pulses) 16 ≡ 10
 one-total a = sum-flat (λ w. w) refl (shape1 a .pulses) 10 6 (one-zero a) ∙ one-low a
 
 -- ---- shape 0: shape 1's ten and one pulse at a place from 10 to 15
-choose-range : (b : Bool) (n p : ℕ) → 10 ≤ p → p ≤ 10 + n → (10 ≤ choose b (10 + suc n) p) × (choose b (10 + suc n) p ≤ 10 + suc n)
+choose-range : (b : Bool) (n p : ℕ) → 10 ≤ p → p ≤ 10 + n → (10 ≤ cond b (10 + suc n) p) × (cond b (10 + suc n) p ≤ 10 + suc n)
 choose-range true n p h k = (omega arith, omega arith)
 choose-range false n p h k = (h, omega arith)
 

@@ -15,11 +15,12 @@ use Rattle.float_laws.specs.Floor.{floorOf}
 use Rattle.float_laws.specs.Running.{sumTo}
 use Rattle.float_laws.proofs.Unsigned.{unsigned, own-unsigned, unsigned-own, mul-unsigned, div-unsigned, sum-unsigned, le-flip}
 use Rattle.float_laws.proofs.Logic.{yes}
+use Rattle.float_laws.specs.Literal.{five, seven}
 use Rattle.list_laws.specs.Some.{someBelow}
 use Rattle.list_laws.proofs.Some.{some-none, some-or}
 use Rattle.pulse_search.specs.declared.SearchRecord.{SearchRecord}
 use Rattle.pulse_search.specs.Pulse.{start, totalTo}
-use Rattle.shape_search.specs.Projection.{five, seven, factorOf, productAt, projectedOf, termsOf, withTerms, none, joinedTo, someNotFinite, someSeven, totalOverSix, zeros, unless, projection, Absolutes, AllBelowSeven, begunOf}
+use Rattle.shape_search.specs.Projection.{factorOf, productAt, projectedOf, termsOf, withTerms, none, joinedTo, someNotFinite, someSeven, totalOverSix, zeros, unless, projection, Absolutes, AllBelowSeven, begunOf}
 use Rattle.shape_search.specs.declared.Start.{Start}
 
 -- ---- no product has a minus sign

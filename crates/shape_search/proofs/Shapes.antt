@@ -1,13 +1,12 @@
 -- One step more of each loop over the shapes' places. Assumes nothing.
 use mathlib.Core.Path.{_≡_, sym, ap, _∙_}
-use mathlib.Core.Bool.{Bool, true, false}
+use mathlib.Core.Bool.{Bool, true, false, cond}
 use mathlib.Core.List.{List, [], _∷_}
 use Prim.Native.Nat.{ℕ, suc, _+_, _-_, _≤_, _<_}
 use native.Mathlib.Omega.{arith}
 use native.Mathlib.Numerals.{add-one}
 use lib.ListN.{length, getD, set}
 use lib.Ieee.{Float, nan, lt}
-use Rattle.float_laws.specs.Scan.{choose}
 use Rattle.list_laws.specs.ListOf.{listOf}
 use Rattle.pulse_search.specs.declared.SearchRecord.{SearchRecord}
 use Rattle.pulse_search.specs.Pulse.{Search, start, more, totalTo, upTo}
@@ -22,14 +21,14 @@ unfolding largestTo
 largest-move a n b e w = rw (add-one n) (go (rw add-one at w))
   where
     go : lt (getD a b nan) (getD a (10 + suc n) nan) ≡ true → 10 + suc n ≡ largestTo a (suc n)
-    go v = sym (ap (λ (z : Bool). choose z (10 + suc n) (largestTo a n)) (rw e at v))
+    go v = sym (ap (λ (z : Bool). cond z (10 + suc n) (largestTo a n)) (rw e at v))
 
 pub largest-keep : (a : List Float) (n b : ℕ) → b ≡ largestTo a n → lt (getD a b nan) (getD a (10 + (n + 1)) nan) ≡ false → b ≡ largestTo a (n + 1)
 unfolding largestTo
 largest-keep a n b e w = rw (add-one n) (go (rw add-one at w))
   where
     go : lt (getD a b nan) (getD a (10 + suc n) nan) ≡ false → b ≡ largestTo a (suc n)
-    go v = e ∙ sym (ap (λ (z : Bool). choose z (10 + suc n) (largestTo a n)) (rw e at v))
+    go v = e ∙ sym (ap (λ (z : Bool). cond z (10 + suc n) (largestTo a n)) (rw e at v))
 
 -- ---- from shape to shape, as the code goes on: its pulses and its pair are those of the search s
 pub record Reached (s : Search) (y : List ℕ) (r : SearchRecord) : Type 0 where

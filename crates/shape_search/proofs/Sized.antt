@@ -15,8 +15,9 @@ use Rattle.float_laws.specs.Bounded.{Bounded}
 use Rattle.float_laws.specs.Size.{Within, exact}
 use Rattle.float_laws.proofs.Size.{within-finite, within-up, whole-exact, mul-within, add-within, sub-within}
 use Rattle.float_laws.proofs.Whole.{int-within}
+use Rattle.float_laws.specs.Literal.{squared}
 use Rattle.pulse_search.specs.declared.SearchRecord.{SearchRecord}
-use Rattle.pulse_search.specs.Pulse.{square, pairAt, bestTo, Search, start, more, missing, totalTo, squareTo}
+use Rattle.pulse_search.specs.Pulse.{pairAt, bestTo, Search, start, more, missing, totalTo, squareTo}
 use Rattle.pulse_search.specs.Claims.{Belongs, Held}
 use Rattle.pulse_search.proofs.Sums.{place-le, total-suc, total-one}
 use Rattle.pulse_search.proofs.Laws.{more-length, more-total, more-suc, more-zero, one-pair, best-le}
@@ -66,10 +67,10 @@ module _ (a : List Float) (B : Bounded 16 16384 a) where
       rw (more-suc, one-pair) x
 
 -- ---- THE SCAN: both sides of each comparison are finite
-side : (c e : Float) → Sized c 32 → Within e 65536 1 → T (finite (mul binary32 (square c) e))
+side : (c e : Float) → Sized c 32 → Within e 65536 1 → T (finite (mul binary32 (squared c) e))
 side c e C E =
-    within-finite (mul binary32 (square c) e) (2 ^ 54) 1
-    (mul-within binary32 (square c) e (2 ^ 38) 1 65536 1 (2 ^ 54) 1 (lit< tt) (lit< tt) (lit< tt) wide (lit≤ tt)
+    within-finite (mul binary32 (squared c) e) (2 ^ 54) 1
+    (mul-within binary32 (squared c) e (2 ^ 38) 1 65536 1 (2 ^ 54) 1 (lit< tt) (lit< tt) (lit< tt) wide (lit≤ tt)
     (mul-within binary32 c c (16384 * 32) 1 (16384 * 32) 1 (2 ^ 38) 1 (lit< tt) (lit< tt) (lit< tt) wide' (lit≤ tt) C C) E)
   where
     wide : T (exact binary32 (2 ^ 54) 1)

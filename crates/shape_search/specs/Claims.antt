@@ -8,10 +8,11 @@ use lib.ListN.{length}
 use lib.Ieee.{Float, binary32, ofInt, mul}
 use Rattle.float_laws.specs.Bounded.{Bounded}
 use Rattle.float_laws.specs.Kind.{finite}
+use Rattle.float_laws.specs.Literal.{nought, squared}
 use Rattle.list_laws.specs.ListOf.{listOf}
-use Rattle.pulse_search.specs.Pulse.{square, pairAt, Search, start, more, missing, upTo, totalTo, squareTo}
+use Rattle.pulse_search.specs.Pulse.{pairAt, Search, start, more, missing, upTo, totalTo, squareTo}
 use Rattle.pulse_search.specs.Claims.{Belongs, Held}
-use Rattle.shape_search.specs.Projection.{nought, zeros, projection}
+use Rattle.shape_search.specs.Projection.{zeros, projection}
 use Rattle.shape_search.specs.Shape.{shape3, shape2, lowered, shape1, shapePulses}
 
 -- each shape's pulses add up to exactly its count, for every a: ten and one, ten, eight, six
@@ -63,7 +64,7 @@ RoundingLeft = lowered highTargets (shape2 highTargets) ≡ start zeros (record 
 abbrev pub Compares : List Float → ℕ → ℕ → Search → Type 0
 Compares a last k s =
     (i : ℕ) → i < k → (n m : ℕ) → n < 16 → m < 16
-    → T (finite (mul binary32 (square (pairAt a (more a last i s .pulses) (more a last i s .pair) n .correlation)) (pairAt a (more a last i s .pulses) (more a last i s .pair) m .energy)))
+    → T (finite (mul binary32 (squared (pairAt a (more a last i s .pulses) (more a last i s .pair) n .correlation)) (pairAt a (more a last i s .pulses) (more a last i s .pair) m .energy)))
 
 -- in the three searches
 abbrev pub Finite : List Float → Type 0

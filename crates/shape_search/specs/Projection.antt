@@ -9,6 +9,7 @@ use lib.ListN.{getD}
 use lib.Ieee.{Float, nan, binary32, ofBits, ofInt, add, mul, div, lt, le}
 use Rattle.float_laws.specs.Absolute.{absOf}
 use Rattle.float_laws.specs.Kind.{finite}
+use Rattle.float_laws.specs.Literal.{nought, five, seven}
 use Rattle.float_laws.specs.Floor.{floorOf}
 use Rattle.float_laws.specs.Running.{sumTo}
 use Rattle.list_laws.specs.ListOf.{listOf}
@@ -16,15 +17,6 @@ use Rattle.list_laws.specs.Some.{someBelow}
 use Rattle.pulse_search.specs.declared.SearchRecord.{SearchRecord}
 use Rattle.pulse_search.specs.Pulse.{Search, start, totalTo}
 use Rattle.shape_search.specs.declared.Start.{Start}
-
-abbrev pub nought : Float
-nought = ofBits binary32 0
-
-abbrev pub five : Float
-five = ofBits binary32 1084227584
-
-abbrev pub seven : Float
-seven = ofBits binary32 1088421888
 
 -- each place of a is an absolute value
 abbrev pub Absolutes : List Float → Type 0

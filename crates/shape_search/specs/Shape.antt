@@ -1,10 +1,10 @@
 -- The four shapes' pulses, without signs. Definitions only.
+use mathlib.Core.Bool.{cond}
 use mathlib.Core.List.{List}
 use Prim.Native.Nat.{ℕ, zero, suc, _+_}
 use lib.Dec.{ltb}
 use lib.ListN.{getD, set}
 use lib.Ieee.{Float, nan, binary32, sub, lt}
-use Rattle.float_laws.specs.Scan.{choose}
 use Rattle.list_laws.specs.ListOf.{listOf}
 use Rattle.pulse_search.specs.declared.SearchRecord.{SearchRecord}
 use Rattle.pulse_search.specs.Pulse.{Search, start, upTo}
@@ -20,7 +20,7 @@ shape2 a = upTo a 15 8 (shape3 a)
 
 -- Shape 1: keep places 0 to 9 of shape 2,
 unfoldable pub lowOf : List ℕ → List ℕ
-lowOf y = listOf 16 (λ n. choose (ltb n 10) (getD y n 0) 0)
+lowOf y = listOf 16 (λ n. cond (ltb n 10) (getD y n 0) 0)
 
 -- subtract the same two terms of a dropped place from correlation and energy
 abbrev pub dropped : SearchRecord → ℕ → Float → SearchRecord
@@ -43,7 +43,7 @@ unfoldable pub largestTo : List Float → ℕ → ℕ
 largestTo a zero = 10
 largestTo a (suc n) =
     let best = largestTo a n in
-    choose (lt (getD a best nan) (getD a (10 + suc n) nan)) (10 + suc n) best
+    cond (lt (getD a best nan) (getD a (10 + suc n) nan)) (10 + suc n) best
 
 -- Shape 0: shape 1's ten places, and one pulse at the first strictly largest a of places 10 to 15.
 unfoldable pub shape0 : List Float → List ℕ

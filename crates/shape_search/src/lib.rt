@@ -9,9 +9,10 @@ ghost use lib.Ieee.{nan, lt};
 ghost use Rattle.float_laws.specs.Absolute.{absOf};
 ghost use Rattle.float_laws.specs.Floor.{floorOf};
 ghost use Rattle.float_laws.specs.Running.{sumTo};
+ghost use Rattle.float_laws.specs.Literal.{seven};
 ghost use Rattle.list_laws.specs.ListOf.{listOf};
 ghost use Rattle.pulse_search.specs.Pulse.{start, totalTo};
-ghost use Rattle.shape_search.specs.Projection.{seven, factorOf, projectedOf, joined, joinedTo, someNotFinite, someSeven, zeros, none, projection, begunOf, Absolutes, AllBelowSeven};
+ghost use Rattle.shape_search.specs.Projection.{factorOf, projectedOf, joined, joinedTo, someNotFinite, someSeven, zeros, none, projection, begunOf, Absolutes, AllBelowSeven};
 ghost use Rattle.shape_search.specs.Shape.{lowOf, dropped, droppedTo, largestTo, shapePulses};
 use pulse_search::SearchRecord;
 

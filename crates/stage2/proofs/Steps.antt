@@ -7,11 +7,11 @@ use lib.IntN.{ℤ}
 use lib.ListN.{getD}
 use lib.Ieee.{Float, nan, binary32, add, mul, lt}
 use Rattle.float_laws.specs.Running.{sumTo}
+use Rattle.float_laws.specs.Literal.{nought}
 use Rattle.list_laws.specs.ListOf.{listOf}
 use Rattle.list_laws.proofs.ListOf.{getD-listOf}
 use Rattle.sns_tables.specs.Rotation.{dRows, dAt}
 use Rattle.sns_tables.specs.Gains.{gainAt}
-use Rattle.shape_search.specs.Projection.{nought}
 use Rattle.pulse_search.specs.Pulse.{squareTo}
 use Rattle.shape_search.proofs.Claims.{shapes-sound}
 use Rattle.stage2_target.specs.Target.{targetOf, absolutesOf}

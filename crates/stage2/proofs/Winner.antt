@@ -17,7 +17,7 @@ use Rattle.numbering.specs.Numbering.{pulsesOf, PulseVector, indexOf, leadSign,
 use Rattle.numbering.proofs.Claims.{regular-a, regular-b, outlier-near, outlier-far}
 use Rattle.pulse_search.specs.Pulse.{totalTo}
 use Rattle.pulse_search.proofs.Sums.{total-suc, total-zero}
-use Rattle.shape_search.specs.Projection.{nought}
+use Rattle.float_laws.specs.Literal.{nought}
 use Rattle.shape_search.specs.Shape.{shapePulses}
 use Rattle.shape_search.proofs.Facts.{zero-low, zero-total, one-low, one-zero, two-total, three-total}
 use Rattle.stage2_target.specs.Target.{absolutesOf}

@@ -6,7 +6,7 @@ ghost use lib.Ieee.{lt};
 ghost use lib.ListN.{getD};
 ghost use Rattle.list_laws.specs.ListOf.{listOf};
 ghost use Rattle.sns_tables.specs.Rotation.{dRows};
-ghost use Rattle.shape_search.specs.Projection.{nought};
+ghost use Rattle.float_laws.specs.Literal.{nought};
 ghost use Rattle.stage2_target.specs.Target.{absolutesOf};
 ghost use Rattle.candidates.specs.Candidate.{signedOf};
 ghost use Rattle.stage2.specs.Numbers.{numbersOf, jointOf, Numberable, Small};

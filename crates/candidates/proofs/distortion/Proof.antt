@@ -8,7 +8,8 @@ use lib.ListN.{getD}
 use lib.Ieee.{nan, binary32, sub, mul}
 use Rattle.float_laws.specs.Running.{sumTo}
 use Rattle.float_laws.proofs.Running.{sum-none, sum-more}
-use Rattle.candidates.specs.Candidate.{squared, distortionOf}
+use Rattle.float_laws.specs.Literal.{squared}
+use Rattle.candidates.specs.Candidate.{distortionOf}
 use Rattle.candidates.proofs.distortion.Statement.{statement}
 use Rattle.candidates.proofs.distortion.Tie as tie
 

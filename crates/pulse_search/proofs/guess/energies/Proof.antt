@@ -6,7 +6,8 @@ use borrow.Author.Needs.{needs}
 use lib.Ieee.{binary32, add, mul}
 use Rattle.list_laws.proofs.Fill.{over, over-none, over-more}
 use Rattle.list_laws.proofs.Full.{full}
-use Rattle.pulse_search.specs.Pulse.{one, two, amount}
+use Rattle.pulse_search.specs.Pulse.{amount}
+use Rattle.float_laws.specs.Literal.{one, two}
 use Rattle.pulse_search.specs.Lanes.{energiesOf}
 use Rattle.pulse_search.proofs.guess.energies.Statement.{statement}
 use Rattle.pulse_search.proofs.guess.energies.Tie as tie
