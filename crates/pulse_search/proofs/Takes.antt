@@ -3,93 +3,23 @@ use mathlib.Core.Path.{_≡_, refl, sym, ap, _∙_, subst}
 use mathlib.Core.Logic.{inl, inr}
 use mathlib.Core.Bool.{Bool, true, false, cond}
 use mathlib.Core.List.{List}
-use Prim.Native.Nat.{ℕ, zero, suc, _+_, _≤_, _<_}
-use native.Mathlib.Nat.{le-refl, le-trans, le-suc, le-of-suc-le-suc, eq-or-lt-of-le, not-suc-le-zero}
-use native.Mathlib.Numerals.{add-one}
+use Prim.Native.Nat.{ℕ, zero, suc, _≤_, _<_}
+use native.Mathlib.Nat.{le-refl, le-trans, le-suc, le-of-suc-le-suc, eq-or-lt-of-le}
 use native.Mathlib.Omega.{arith}
 use borrow.Author.Tests.{le-leb, not-true, not-false}
 use lib.Dec.{T, leb}
 use lib.ListN.{getD}
-use lib.Ieee.{Float, nan, binary32, ofBits, add, mul, lt}
+use lib.Ieee.{Float, nan, binary32, add, mul, lt}
 use Rattle.float_laws.proofs.Logic.{yes}
 use Rattle.float_laws.proofs.Order.{lt-asym, lt-irrefl}
 use Rattle.float_laws.specs.Literal.{one, two, squared}
 use Rattle.list_laws.proofs.ListOf.{getD-listOf}
 use Rattle.pulse_search.specs.declared.SearchRecord.{SearchRecord}
-use Rattle.pulse_search.specs.Pulse.{amount, pairAt, replaces, bestTo}
-use Rattle.pulse_search.specs.Lanes.{upToLast, firstOf, squaresOf, energiesOf, unbeatenBy, oneIf, countTo}
+use Rattle.pulse_search.specs.Pulse.{pairAt, replaces, bestTo}
+use Rattle.pulse_guess.specs.Lanes.{amount}
+use Rattle.pulse_guess.specs.Lanes.{upToLast, firstOf, squaresOf, energiesOf, unbeatenBy, countTo}
 use Rattle.pulse_search.proofs.Laws.{best-le}
-
--- ---- a place up to last, and one past it
-pub kept : (b : Bool) (x : Float) → b ≡ true → x ≡ upToLast b x
-unfolding upToLast
-kept true x e = refl
-kept false x e = absurd (subst T (sym e) tt)
-
-pub left-out : (b : Bool) (x : Float) → b ≡ false → ofBits binary32 0 ≡ upToLast b x
-unfolding upToLast
-left-out true x e = absurd (subst T e tt)
-left-out false x e = refl
-
--- ---- counting
-pub count-yes : (f : ℕ → Bool) (n c : ℕ) → c ≡ countTo f n → f n ≡ true → c + 1 ≡ countTo f (n + 1)
-unfolding countTo
-count-yes f n c e h = rw (add-one n) (ap (λ (k : ℕ). k + 1) e ∙ sym (ap (λ (b : Bool). countTo f n + oneIf b) h))
-
-pub count-no : (f : ℕ → Bool) (n c : ℕ) → c ≡ countTo f n → f n ≡ false → c ≡ countTo f (n + 1)
-unfolding countTo
-count-no f n c e h = rw (add-one n) (e ∙ plus (countTo f n) ∙ sym (ap (λ (b : Bool). countTo f n + oneIf b) h))
-  where
-    plus : (a : ℕ) → a ≡ a + 0
-    plus a = omega arith
-
--- one that passes is counted
-counted : (f : ℕ → Bool) (n k : ℕ) → k < n → f k ≡ true → 1 ≤ countTo f n
-unfolding countTo
-counted f zero k h t = absurd (not-suc-le-zero h)
-counted f (suc n) k h t =
-    elim (eq-or-lt-of-le (le-of-suc-le-suc h)) [
-      | inl e ↦ subst (λ (b : Bool). 1 ≤ countTo f n + oneIf b) (sym (subst (λ (j : ℕ). f j ≡ true) e t)) (last (countTo f n))
-      | inr l ↦ le-trans (counted f n k l t) (more (countTo f n) (oneIf (f n)))
-    ]
-  where
-    last : (a : ℕ) → 1 ≤ a + 1
-    last a = omega arith
-
-    more : (a b : ℕ) → a ≤ a + b
-    more a b = omega arith
-
--- and so are two
-two-counted : (f : ℕ → Bool) (n g k : ℕ) → k < g → g < n → f g ≡ true → f k ≡ true → 2 ≤ countTo f n
-unfolding countTo
-two-counted f zero g k l h s t = absurd (not-suc-le-zero h)
-two-counted f (suc n) g k l h s t =
-    elim (eq-or-lt-of-le (le-of-suc-le-suc h)) [
-      | inl e ↦
-          subst (λ (b : Bool). 2 ≤ countTo f n + oneIf b) (sym (subst (λ (j : ℕ). f j ≡ true) e s))
-          (last (countTo f n) (counted f n k (subst (λ (j : ℕ). k < j) e l) t))
-      | inr i ↦ le-trans (two-counted f n g k l i s t) (more (countTo f n) (oneIf (f n)))
-    ]
-  where
-    last : (a : ℕ) → 1 ≤ a → 2 ≤ a + 1
-    last a h = omega arith
-
-    more : (a b : ℕ) → a ≤ a + b
-    more a b = omega arith
-
--- where one passes and one is counted, no other passes
-pub only-one : (f : ℕ → Bool) (n g : ℕ) → countTo f n ≡ 1 → g < n → f g ≡ true → (k : ℕ) → k < n → (k ≡ g → ⊥) → f k ≡ false
-only-one f n g e h s k l d = go (f k) refl
-  where
-    clash : {c : ℕ} → c ≡ 1 → 2 ≤ c → ⊥
-    clash a b = omega arith
-
-    later : (k g : ℕ) → (k ≡ g → ⊥) → (k < g → ⊥) → g < k
-    later k g d n = omega arith
-
-    go : (b : Bool) → f k ≡ b → f k ≡ false
-    go false t = t
-    go true t = absurd (clash e (two-counted f n k g (later k g d (λ (i : k < g). clash e (two-counted f n g k i h s t))) l t s))
+use Rattle.pulse_guess.proofs.Counted.{only-one}
 
 holds : (b : Bool) → T b → b ≡ true
 holds true t = refl

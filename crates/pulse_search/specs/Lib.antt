@@ -1,3 +1,2 @@
 pub mod Pulse
-pub mod Lanes
 pub mod Claims

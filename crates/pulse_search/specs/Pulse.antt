@@ -2,15 +2,11 @@
 use mathlib.Core.Bool.{Bool, cond}
 use mathlib.Core.List.{List}
 use Prim.Native.Nat.{ℕ, zero, suc, _+_, _-_, _*_}
-use lib.IntN.{pos}
 use lib.ListN.{getD, set}
-use lib.Ieee.{Float, nan, binary32, ofBits, ofInt, add, mul, lt}
+use lib.Ieee.{Float, nan, binary32, add, mul, lt}
 use Rattle.float_laws.specs.Literal.{one, two, squared}
+use Rattle.pulse_guess.specs.Lanes.{amount}
 use Rattle.pulse_search.specs.declared.SearchRecord.{SearchRecord}
-
--- a place's pulses as a float
-abbrev pub amount : List ℕ → ℕ → Float
-amount y n = ofInt binary32 (pos (getD y n 0))
 
 -- c = correlation + a[n] and e = (energy + 2·pulses[n]) + 1: the pair with one pulse more at place n
 unfoldable pub pairAt : List Float → List ℕ → SearchRecord → ℕ → SearchRecord

@@ -1,13 +1,11 @@
 // Single pulses, each at the place that serves best: the search that shapes 3, 2 and 1 share. The running search
 // record goes through it by value. Public for the crates above only; every result is pinned by a definition, but for the
-// guess of guess.rt, which promises a place below 16 and is tested before it is taken.
+// guess of crate pulse_guess, which promises a place below 16 and is tested before it is taken.
 ghost use mathlib.Core.Path.{_≡_};
 ghost use Prim.Native.Nat.{_+_, _-_, _<_, _≤_};
 ghost use lib.ListN.{length};
-ghost use Rattle.pulse_search.specs.Lanes.{firstOf};
+ghost use Rattle.pulse_guess.specs.Lanes.{firstOf};
 ghost use Rattle.pulse_search.specs.Pulse.{pairAt, replaces, bestTo, start, more, totalTo};
-
-pub mod guess;
 
 // The running search record: the correlation of the pulses with the target, and their energy.
 pub struct SearchRecord {
@@ -64,13 +62,13 @@ fn best_place(
     requires { ⌜ (last < 16) × (now «low_x» ≡ firstOf (now «abs_x») last) ⌝ }
     ensures { λ p. ⌜ p ≡ bestTo (now («abs_x» .entry)) (now (y .entry)) r last ⌝ }
 {
-    let c = guess::squares(low_x, r.correlation);
-    let e = guess::energies(y, r.energy);
-    let g = guess::guess(&c, &e);
+    let c = pulse_guess::squares(low_x, r.correlation);
+    let e = pulse_guess::energies(y, r.energy);
+    let g = pulse_guess::guess(&c, &e);
     if last < g {
         return scan_places(abs_x, y, r, last);
     }
-    if guess::unbeaten(&c, &e, g) != 1 {
+    if pulse_guess::unbeaten(&c, &e, g) != 1 {
         return scan_places(abs_x, y, r, last);
     }
     g
@@ -90,7 +88,7 @@ pub fn add_unit_pulse(
     ensures pair { λ p. ⌜ p ≡ more (now («abs_x» .entry)) last («k_max» - k) (start (now (y .entry)) r) .pair ⌝ }
 {
     let count = k_max - k;
-    let low_x = guess::first_places(abs_x, last);
+    let low_x = pulse_guess::first_places(abs_x, last);
     let mut pair = r;
     let mut added = 0usize;
     while added < count {

@@ -8,9 +8,9 @@ use lib.Ieee.{nan, binary32, add}
 use Rattle.list_laws.proofs.Fill.{over, over-none, over-more}
 use Rattle.list_laws.proofs.Full.{full}
 use Rattle.float_laws.specs.Literal.{squared}
-use Rattle.pulse_search.specs.Lanes.{squaresOf}
-use Rattle.pulse_search.proofs.guess.squares.Statement.{statement}
-use Rattle.pulse_search.proofs.guess.squares.Tie as tie
+use Rattle.pulse_guess.specs.Lanes.{squaresOf}
+use Rattle.pulse_guess.proofs.squares.Statement.{statement}
+use Rattle.pulse_guess.proofs.squares.Tie as tie
 
 abbrev Inv-loop : tie.InvT-loop
 Inv-loop x correlation c₀ n₀ c n = (n ≤ 16) × (c ≡ over (λ n. squared (add binary32 correlation (getD x n nan))) n c₀)

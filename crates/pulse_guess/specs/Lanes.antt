@@ -3,10 +3,10 @@ use mathlib.Core.Bool.{Bool, true, false, not}
 use mathlib.Core.List.{List}
 use Prim.Native.Nat.{ℕ, zero, suc, _+_}
 use lib.Dec.{leb}
+use lib.IntN.{pos}
 use lib.ListN.{getD}
-use lib.Ieee.{Float, nan, binary32, ofBits, add, mul, lt}
+use lib.Ieee.{Float, nan, binary32, ofBits, ofInt, add, mul, lt}
 use Rattle.list_laws.specs.ListOf.{listOf}
-use Rattle.pulse_search.specs.Pulse.{amount}
 use Rattle.float_laws.specs.Literal.{one, two, squared}
 
 -- the absolute value of a place up to last, and zero past it
@@ -20,6 +20,10 @@ firstOf a last = listOf 16 (λ n. upToLast (leb n last) (getD a n nan))
 -- c·c of each place
 unfoldable pub squaresOf : List Float → Float → List Float
 squaresOf a correlation = listOf 16 (λ n. squared (add binary32 correlation (getD a n nan)))
+
+-- a place's pulses as a float
+abbrev pub amount : List ℕ → ℕ → Float
+amount y n = ofInt binary32 (pos (getD y n 0))
 
 -- e of each place
 unfoldable pub energiesOf : List ℕ → Float → List Float

@@ -5,8 +5,8 @@ use Prim.Native.Nat.{_-_}
 use borrow.Author.Needs.{needs}
 use lib.Dec.{T}
 use lib.Ieee.{Float, nan, inf, fin, binary32, ofBits, le, isNan}
-use Rattle.pulse_search.proofs.guess.bits_of.Statement.{statement}
-use Rattle.pulse_search.proofs.guess.bits_of.Tie as tie
+use Rattle.pulse_guess.proofs.bits_of.Statement.{statement}
+use Rattle.pulse_guess.proofs.bits_of.Tie as tie
 
 -- what a number is at most is no NaN
 le-no-nan : (z x : Float) → T (le z x) → T (not (isNan x))

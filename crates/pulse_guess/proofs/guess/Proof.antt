@@ -1,8 +1,8 @@
 -- The lane of the largest key is one of sixteen.
 use Prim.Native.Nat.{_≤_, _-_}
 use borrow.Author.Needs.{needs}
-use Rattle.pulse_search.proofs.guess.guess.Statement.{statement}
-use Rattle.pulse_search.proofs.guess.guess.Tie as tie
+use Rattle.pulse_guess.proofs.guess.Statement.{statement}
+use Rattle.pulse_guess.proofs.guess.Tie as tie
 
 abbrev Inv-loop : tie.InvT-loop
 Inv-loop c e top₀ n₀ top n = n ≤ 16

@@ -3,7 +3,7 @@
 ghost use mathlib.Core.Path.{_≡_};
 ghost use Prim.Native.Nat.{_<_, _≤_};
 ghost use lib.Dec.{leb};
-ghost use Rattle.pulse_search.specs.Lanes.{upToLast, firstOf, squaresOf, energiesOf, unbeatenBy, countTo};
+ghost use Rattle.pulse_guess.specs.Lanes.{upToLast, firstOf, squaresOf, energiesOf, unbeatenBy, countTo};
 
 fn up_to_last(x: f32, n: usize, last: usize) -> f32
     ensures { λ r. ⌜ r ≡ upToLast (leb n last) x ⌝ }

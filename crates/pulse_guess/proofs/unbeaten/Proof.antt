@@ -4,10 +4,10 @@ use mathlib.Core.Logic.{⊎-elim}
 use Prim.Native.Nat.{_≤_, _-_}
 use native.Mathlib.Omega.{arith}
 use borrow.Author.Needs.{needs}
-use Rattle.pulse_search.specs.Lanes.{unbeatenBy, countTo}
-use Rattle.pulse_search.proofs.Takes.{count-yes, count-no}
-use Rattle.pulse_search.proofs.guess.unbeaten.Statement.{statement}
-use Rattle.pulse_search.proofs.guess.unbeaten.Tie as tie
+use Rattle.pulse_guess.specs.Lanes.{unbeatenBy, countTo}
+use Rattle.pulse_guess.proofs.Counted.{count-yes, count-no}
+use Rattle.pulse_guess.proofs.unbeaten.Statement.{statement}
+use Rattle.pulse_guess.proofs.unbeaten.Tie as tie
 
 abbrev Inv-loop : tie.InvT-loop
 Inv-loop c e g cg eg count₀ n₀ count n = (n ≤ 16) × (count ≡ countTo (unbeatenBy c e g) n) × (count ≤ n)

@@ -6,11 +6,10 @@ use borrow.Author.Needs.{needs}
 use lib.Ieee.{binary32, add, mul}
 use Rattle.list_laws.proofs.Fill.{over, over-none, over-more}
 use Rattle.list_laws.proofs.Full.{full}
-use Rattle.pulse_search.specs.Pulse.{amount}
 use Rattle.float_laws.specs.Literal.{one, two}
-use Rattle.pulse_search.specs.Lanes.{energiesOf}
-use Rattle.pulse_search.proofs.guess.energies.Statement.{statement}
-use Rattle.pulse_search.proofs.guess.energies.Tie as tie
+use Rattle.pulse_guess.specs.Lanes.{amount, energiesOf}
+use Rattle.pulse_guess.proofs.energies.Statement.{statement}
+use Rattle.pulse_guess.proofs.energies.Tie as tie
 
 abbrev Inv-loop : tie.InvT-loop
 Inv-loop y energy e₀ n₀ e n = (n ≤ 16) × (e ≡ over (λ n. add binary32 (add binary32 energy (mul binary32 two (amount y n))) one) n e₀)

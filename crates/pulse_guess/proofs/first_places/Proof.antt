@@ -8,9 +8,9 @@ use lib.ListN.{getD}
 use lib.Ieee.{nan}
 use Rattle.list_laws.proofs.Fill.{over, over-none, over-more}
 use Rattle.list_laws.proofs.Full.{full}
-use Rattle.pulse_search.specs.Lanes.{upToLast, firstOf}
-use Rattle.pulse_search.proofs.guess.first_places.Statement.{statement}
-use Rattle.pulse_search.proofs.guess.first_places.Tie as tie
+use Rattle.pulse_guess.specs.Lanes.{upToLast, firstOf}
+use Rattle.pulse_guess.proofs.first_places.Statement.{statement}
+use Rattle.pulse_guess.proofs.first_places.Tie as tie
 
 abbrev Inv-loop : tie.InvT-loop
 Inv-loop abs-x last x₀ n₀ x n = (n ≤ 16) × (x ≡ over (λ n. upToLast (leb n last) (getD abs-x n nan)) n x₀)

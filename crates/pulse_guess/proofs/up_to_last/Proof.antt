@@ -1,9 +1,9 @@
 -- The two cases of the definition.
 use Prim.Native.Nat.{_-_}
 use borrow.Author.Tests.{le-leb, lt-leb}
-use Rattle.pulse_search.proofs.Takes.{kept, left-out}
-use Rattle.pulse_search.proofs.guess.up_to_last.Statement.{statement}
-use Rattle.pulse_search.proofs.guess.up_to_last.Tie as tie
+use Rattle.pulse_guess.proofs.Counted.{kept, left-out}
+use Rattle.pulse_guess.proofs.up_to_last.Statement.{statement}
+use Rattle.pulse_guess.proofs.up_to_last.Tie as tie
 
 returns : tie.Need-returns
 returns c = kept _ _ (le-leb _ _ (c .if1 .taken))
