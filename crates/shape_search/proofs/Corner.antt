@@ -6,7 +6,7 @@ use Rattle.float_laws.specs.Running.{sumTo}
 use Rattle.list_laws.specs.ListOf.{listOf}
 use Rattle.list_laws.specs.Some.{someBelow}
 use Rattle.pulse_search.specs.Pulse.{pairAt, replaces, bestTo, onePulse, more, sumOver}
-use Rattle.shape_search.specs.Projection.{factorOf, productAt, projectedOf, termsOf, withTerms, joinedTo, someNotFinite, someSeven, totalOverSix, projection}
+use Rattle.projection.specs.Projection.{factorOf, productAt, projectedOf, termsOf, withTerms, joinedTo, someNotFinite, someSeven, totalOverSix, projection}
 use Rattle.shape_search.specs.Shape.{lowOf, droppedTo, lowered, shape3, shape2}
 use Rattle.shape_search.specs.Claims.{RoundingLeft}
 

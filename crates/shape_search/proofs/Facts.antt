@@ -14,7 +14,7 @@ use Rattle.list_laws.proofs.ListOf.{length-listOf, getD-listOf}
 use Rattle.pulse_search.specs.Pulse.{Search, start, sumOver, totalTo, squareTo, missing, upTo}
 use Rattle.pulse_search.proofs.Sums.{sum-same, sum-past, sum-set, sum-grow, sum-flat, square-low, square-high}
 use Rattle.pulse_search.proofs.Laws.{more-length, more-total, more-past}
-use Rattle.shape_search.specs.Projection.{projectedOf, none, joinedTo, someNotFinite, someSeven, totalOverSix, zeros, unless, projection}
+use Rattle.projection.specs.Projection.{projectedOf, none, joinedTo, someNotFinite, someSeven, totalOverSix, zeros, unless, projection}
 use Rattle.shape_search.specs.Shape.{shape3, shape2, lowOf, lowered, shape1, largestTo, shape0}
 
 -- ---- the projection has at most six

@@ -17,7 +17,7 @@ use Rattle.pulse_search.specs.Claims.{Belongs, Held}
 use Rattle.pulse_search.proofs.Sums.{sum-suc, sum-grow, place-le}
 use Rattle.pulse_search.proofs.Laws.{more-more}
 use Rattle.pulse_search.proofs.Held.{far, squares-few, belongs-of, record-held}
-use Rattle.shape_search.specs.Projection.{none, termsOf, withTerms, joined, joinedTo, projectedOf, someNotFinite, someSeven, totalOverSix, zeros, projection}
+use Rattle.projection.specs.Projection.{none, termsOf, withTerms, joined, joinedTo, projectedOf, someNotFinite, someSeven, totalOverSix, zeros, projection}
 use Rattle.shape_search.specs.Shape.{lowOf, dropped, droppedTo, lowered, shape3, shape2, shape1}
 use Rattle.shape_search.specs.Claims.{SearchesHeld, ShapesHeld, OneSearch}
 use Rattle.shape_search.proofs.Facts.{unless-both, or-right-not, zeros-total, projection-length, projection-total, three-length, three-total, two-total, low-length, low-all, low-sum-all}

@@ -1,4 +1,3 @@
-pub mod Projection
 pub mod Shapes
 pub mod Facts
 pub mod Held

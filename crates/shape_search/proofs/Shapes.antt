@@ -10,8 +10,8 @@ use lib.Ieee.{Float, nan, lt}
 use Rattle.list_laws.specs.ListOf.{listOf}
 use Rattle.pulse_search.specs.declared.SearchRecord.{SearchRecord}
 use Rattle.pulse_search.specs.Pulse.{Search, start, more, totalTo, upTo}
-use Rattle.shape_search.specs.Projection.{projection, begunOf}
-use Rattle.shape_search.specs.declared.Start.{Start}
+use Rattle.projection.specs.Projection.{projection, begunOf}
+use Rattle.projection.specs.declared.Start.{Start}
 use Rattle.shape_search.specs.Shape.{shape3, shape2, lowOf, droppedTo, lowered, shape1, largestTo, shape0, shapePulses}
 use Rattle.shape_search.proofs.Facts.{three-total}
 

@@ -22,7 +22,7 @@ use Rattle.pulse_search.specs.Claims.{Belongs, Held}
 use Rattle.pulse_search.proofs.Sums.{place-le, total-suc, total-one}
 use Rattle.pulse_search.proofs.Laws.{more-length, more-total, more-suc, more-zero, one-pair, best-le}
 use Rattle.pulse_search.proofs.Held.{far, squares-few}
-use Rattle.shape_search.specs.Projection.{none, zeros, projectedOf, termsOf, withTerms, joinedTo, someNotFinite, someSeven, totalOverSix, projection}
+use Rattle.projection.specs.Projection.{none, zeros, projectedOf, termsOf, withTerms, joinedTo, someNotFinite, someSeven, totalOverSix, projection}
 use Rattle.shape_search.specs.Shape.{droppedTo, lowered, shape3, shape2}
 use Rattle.shape_search.specs.Claims.{Compares, SearchesFinite}
 use Rattle.shape_search.proofs.Facts.{unless-both, or-right-not, projection-length, projection-total, three-length, three-total, two-total, low-length, low-all}

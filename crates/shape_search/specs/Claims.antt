@@ -12,7 +12,7 @@ use Rattle.float_laws.specs.Literal.{nought, squared}
 use Rattle.list_laws.specs.ListOf.{listOf}
 use Rattle.pulse_search.specs.Pulse.{pairAt, Search, start, more, missing, upTo, totalTo, squareTo}
 use Rattle.pulse_search.specs.Claims.{Belongs, Held}
-use Rattle.shape_search.specs.Projection.{zeros, projection}
+use Rattle.projection.specs.Projection.{zeros, projection}
 use Rattle.shape_search.specs.Shape.{shape3, shape2, lowered, shape1, shapePulses}
 
 -- each shape's pulses add up to exactly its count, for every a: ten and one, ten, eight, six

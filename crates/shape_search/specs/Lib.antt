@@ -1,3 +1,2 @@
-pub mod Projection
 pub mod Shape
 pub mod Claims

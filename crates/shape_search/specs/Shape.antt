@@ -8,7 +8,7 @@ use lib.Ieee.{Float, nan, binary32, sub, lt}
 use Rattle.list_laws.specs.ListOf.{listOf}
 use Rattle.pulse_search.specs.declared.SearchRecord.{SearchRecord}
 use Rattle.pulse_search.specs.Pulse.{Search, start, upTo}
-use Rattle.shape_search.specs.Projection.{withTerms, projection}
+use Rattle.projection.specs.Projection.{withTerms, projection}
 
 -- Shape 3: the projection. Then single pulses up to 6 over 16 places.
 unfoldable pub shape3 : List Float → Search

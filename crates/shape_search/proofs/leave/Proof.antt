@@ -1,8 +1,8 @@
 -- The two cases of the definition.
 use Prim.Native.Nat.{_-_}
 use borrow.Author.Needs.{needs}
-use Rattle.shape_search.specs.Projection.{termsOf}
-use Rattle.shape_search.proofs.Projection.{terms-zero, terms-some}
+use Rattle.projection.specs.Projection.{termsOf}
+use Rattle.projection.proofs.Projection.{terms-zero, terms-some}
 use Rattle.shape_search.proofs.leave.Statement.{statement}
 use Rattle.shape_search.proofs.leave.Tie as tie
 

@@ -6,8 +6,8 @@ use native.Mathlib.Nat.{le-of-eq, le-trans}
 use borrow.Author.Needs.{needs}
 use lib.Dec.{lit<, lit≤}
 use Rattle.pulse_search.specs.Pulse.{totalTo}
-use Rattle.shape_search.specs.Projection.{projection}
-use Rattle.shape_search.specs.declared.Start.{Start}
+use Rattle.projection.specs.Projection.{projection}
+use Rattle.projection.specs.declared.Start.{Start}
 use Rattle.shape_search.specs.Shape.{shape3, shape2, lowered}
 use Rattle.shape_search.proofs.Shapes.{begun, on-three, on-two, on-low, on-one, room, four-are}
 use Rattle.shape_search.proofs.Facts.{projection-length, projection-total, three-length, three-total, low-length, low-total, low-all, largest-under}

@@ -7,8 +7,8 @@ use lib.ListN.{getD}
 use lib.Ieee.{nan}
 use Rattle.float_laws.specs.Running.{sumTo}
 use Rattle.float_laws.proofs.Running.{sum-none, sum-more}
-use Rattle.shape_search.proofs.sum.Statement.{statement}
-use Rattle.shape_search.proofs.sum.Tie as tie
+use Rattle.projection.proofs.sum.Statement.{statement}
+use Rattle.projection.proofs.sum.Tie as tie
 
 abbrev Inv-loop : tie.InvT-loop
 Inv-loop abs-x s₀ n₀ s n = (n ≤ 16) × (s ≡ sumTo (λ n. getD abs-x n nan) n)

@@ -2,10 +2,10 @@
 use mathlib.Core.Path.{sym, _∙_, ap}
 use Prim.Native.Nat.{_-_}
 use borrow.Author.Needs.{needs}
-use Rattle.shape_search.specs.Projection.{begunOf}
-use Rattle.shape_search.proofs.Projection.{factor-is, all-below, begun-kept, lost-large, lost-total}
-use Rattle.shape_search.proofs.project.Statement.{statement}
-use Rattle.shape_search.proofs.project.Tie as tie
+use Rattle.projection.specs.Projection.{begunOf}
+use Rattle.projection.proofs.Projection.{factor-is, all-below, begun-kept, lost-large, lost-total}
+use Rattle.projection.proofs.project.Statement.{statement}
+use Rattle.projection.proofs.project.Tie as tie
 
 sum-requires : tie.Need-sum-requires
 sum-requires c κs = search needs

@@ -6,8 +6,8 @@ use lib.Ieee.{ofBits}
 use Rattle.float_laws.proofs.Logic.{yes, no}
 use Rattle.float_laws.proofs.Unsigned.{own-unsigned, not-below}
 use Rattle.float_laws.proofs.Floor.{floor-is}
-use Rattle.shape_search.proofs.floor.Statement.{statement}
-use Rattle.shape_search.proofs.floor.Tie as tie
+use Rattle.projection.proofs.floor.Statement.{statement}
+use Rattle.projection.proofs.floor.Tie as tie
 
 returns : tie.Need-returns
 unfolding ofBits

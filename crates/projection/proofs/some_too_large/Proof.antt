@@ -7,9 +7,9 @@ use borrow.Author.Tests.{not-true, not-false}
 use borrow.Author.Needs.{needs}
 use Rattle.list_laws.specs.Some.{someBelow}
 use Rattle.list_laws.proofs.Some.{some-more, some-same}
-use Rattle.shape_search.proofs.Projection.{tooLarge, too-large-is, too-large-yes, too-large-no}
-use Rattle.shape_search.proofs.some_too_large.Statement.{statement}
-use Rattle.shape_search.proofs.some_too_large.Tie as tie
+use Rattle.projection.proofs.Projection.{tooLarge, too-large-is, too-large-yes, too-large-no}
+use Rattle.projection.proofs.some_too_large.Statement.{statement}
+use Rattle.projection.proofs.some_too_large.Tie as tie
 
 abbrev Inv-loop : tie.InvT-loop
 Inv-loop abs-x factor found₀ n₀ found n = (n ≤ 16) × (found ≡ someBelow n (tooLarge abs-x))

@@ -7,9 +7,9 @@ use borrow.Author.Needs.{needs}
 use lib.ListN.{getD}
 use lib.Ieee.{nan}
 use Rattle.pulse_search.specs.declared.SearchRecord.{SearchRecord}
-use Rattle.shape_search.specs.Projection.{joined, joinedTo}
-use Rattle.shape_search.proofs.pair_of.Statement.{statement}
-use Rattle.shape_search.proofs.pair_of.Tie as tie
+use Rattle.projection.specs.Projection.{joined, joinedTo}
+use Rattle.projection.proofs.pair_of.Statement.{statement}
+use Rattle.projection.proofs.pair_of.Tie as tie
 
 abbrev Inv-loop : tie.InvT-loop
 Inv-loop abs-x y r₀ n₀ r n = (n ≤ 16) × (r ≡ joinedTo abs-x y n)

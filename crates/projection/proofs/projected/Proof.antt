@@ -6,10 +6,10 @@ use borrow.Author.Needs.{needs}
 use Rattle.float_laws.specs.Floor.{floorOf}
 use Rattle.list_laws.proofs.Fill.{over, over-none, over-more}
 use Rattle.list_laws.proofs.Full.{full}
-use Rattle.shape_search.specs.Projection.{productAt, projectedOf}
-use Rattle.shape_search.proofs.Projection.{floor-asks, floor-gives}
-use Rattle.shape_search.proofs.projected.Statement.{statement}
-use Rattle.shape_search.proofs.projected.Tie as tie
+use Rattle.projection.specs.Projection.{productAt, projectedOf}
+use Rattle.projection.proofs.Projection.{floor-asks, floor-gives}
+use Rattle.projection.proofs.projected.Statement.{statement}
+use Rattle.projection.proofs.projected.Tie as tie
 
 abbrev Inv-loop : tie.InvT-loop
 Inv-loop abs-x factor y₀ n₀ y n = (n ≤ 16) × (y ≡ over (λ n. floorOf (productAt abs-x n)) n y₀)

@@ -16,7 +16,7 @@ use Rattle.list_laws.specs.ListOf.{listOf}
 use Rattle.list_laws.specs.Some.{someBelow}
 use Rattle.pulse_search.specs.declared.SearchRecord.{SearchRecord}
 use Rattle.pulse_search.specs.Pulse.{Search, start, totalTo}
-use Rattle.shape_search.specs.declared.Start.{Start}
+use Rattle.projection.specs.declared.Start.{Start}
 
 -- each place of a is an absolute value
 abbrev pub Absolutes : List Float → Type 0

@@ -3,8 +3,8 @@ use mathlib.Core.Path.{refl}
 use Prim.Native.Nat.{_-_}
 use Rattle.list_laws.specs.ListOf.{listOf}
 use Rattle.pulse_search.specs.Pulse.{sumOver}
-use Rattle.shape_search.proofs.nothing.Statement.{statement}
-use Rattle.shape_search.proofs.nothing.Tie as tie
+use Rattle.projection.proofs.nothing.Statement.{statement}
+use Rattle.projection.proofs.nothing.Tie as tie
 
 returns : tie.Need-returns
 unfolding listOf sumOver

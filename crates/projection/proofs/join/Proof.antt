@@ -1,10 +1,10 @@
 -- The two cases of the definition.
 use Prim.Native.Nat.{_-_}
 use borrow.Author.Needs.{needs}
-use Rattle.shape_search.specs.Projection.{termsOf}
-use Rattle.shape_search.proofs.Projection.{terms-zero, terms-some}
-use Rattle.shape_search.proofs.join.Statement.{statement}
-use Rattle.shape_search.proofs.join.Tie as tie
+use Rattle.projection.specs.Projection.{termsOf}
+use Rattle.projection.proofs.Projection.{terms-zero, terms-some}
+use Rattle.projection.proofs.join.Statement.{statement}
+use Rattle.projection.proofs.join.Tie as tie
 
 returns : tie.Need-returns
 returns c = terms-zero _ _ _ _ (c .if1 .taken)

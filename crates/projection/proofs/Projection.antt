@@ -20,8 +20,8 @@ use Rattle.list_laws.specs.Some.{someBelow}
 use Rattle.list_laws.proofs.Some.{some-none, some-or}
 use Rattle.pulse_search.specs.declared.SearchRecord.{SearchRecord}
 use Rattle.pulse_search.specs.Pulse.{start, totalTo}
-use Rattle.shape_search.specs.Projection.{factorOf, productAt, projectedOf, termsOf, withTerms, none, joinedTo, someNotFinite, someSeven, totalOverSix, zeros, unless, projection, Absolutes, AllBelowSeven, begunOf}
-use Rattle.shape_search.specs.declared.Start.{Start}
+use Rattle.projection.specs.Projection.{factorOf, productAt, projectedOf, termsOf, withTerms, none, joinedTo, someNotFinite, someSeven, totalOverSix, zeros, unless, projection, Absolutes, AllBelowSeven, begunOf}
+use Rattle.projection.specs.declared.Start.{Start}
 
 -- ---- no product has a minus sign
 five-unsigned : T (unsigned five)
