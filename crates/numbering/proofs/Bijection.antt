@@ -8,9 +8,10 @@ use native.Mathlib.Omega.{arith}
 use lib.IntN.{ℤ, pos, negsuc}
 use lib.ListN.{length}
 use Rattle.mpvq_offsets.specs.Offsets.{offsetOf, sizeOf}
-use Rattle.numbering.specs.Numbering.{pulsesOf, signBefore, leadSign, pushed, indexOf, signed, columnOf, nextSign, nextIndex, vectorAt}
-use Rattle.numbering.proofs.Offsets.{step, first, ones, rises, mono, gap}
-use Rattle.numbering.proofs.Columns.{Column, column, column-is}
+use Rattle.numbering.specs.Numbering.{pulsesOf, signBefore, leadSign, pushed, indexOf, signed, nextSign, nextIndex, vectorAt}
+use Rattle.columns.specs.Column.{columnOf}
+use Rattle.columns.proofs.Offsets.{step, first, ones, rises, mono, gap}
+use Rattle.columns.proofs.Columns.{Column, column, column-is}
 
 Room : ℕ → ℕ → ℕ → ℕ → Type 0
 Room n k s i = offsetOf n k + (2 * i + s) < offsetOf n (suc k)

@@ -9,7 +9,7 @@ use Rattle.mpvq_offsets.specs.Offsets.{offsetOf, sizeOf}
 use Rattle.shapes.proofs.Sizes.{size-regular-a, size-regular-b, size-near, size-far}
 use Rattle.numbering.specs.Numbering.{pulsesOf, PulseVector, signBefore, leadSign, indexOf, signed, vectorAt}
 use Rattle.numbering.specs.Claims.{Once, OneToOne, Claim, RegularA, RegularB, OutlierNear, OutlierFar, LeadSign, MoreFirst}
-use Rattle.numbering.proofs.Offsets.{mono}
+use Rattle.columns.proofs.Offsets.{mono}
 use Rattle.numbering.proofs.Bijection.{sign-below, room, pushed-most, index-below, unpacks, repacks}
 
 module _ (n k : ℕ) (h : 0 < k) where

@@ -1,7 +1,8 @@
 -- Every corner of the table holds of the written rules, by computation. Assumes nothing.
 use mathlib.Core.Path.{refl}
 use Rattle.mpvq_offsets.specs.Offsets.{offsetOf}
-use Rattle.numbering.specs.Numbering.{signed, columnOf, nextSign, nextIndex, vectorAt}
+use Rattle.numbering.specs.Numbering.{signed, nextSign, nextIndex, vectorAt}
+use Rattle.columns.specs.Column.{columnOf}
 use Rattle.numbering.specs.Corners.{answer, zeros, corners, Corners}
 
 pub hold : Corners

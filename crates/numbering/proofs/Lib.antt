@@ -1,5 +1,3 @@
-pub mod Offsets
-pub mod Columns
 pub mod Bijection
 pub mod Claims
 pub mod Corners

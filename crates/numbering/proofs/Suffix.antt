@@ -8,7 +8,7 @@ use lib.ListN.{length, drop, getD, length-drop}
 use lib.Seq.{drop-cons, drop-nil}
 use Rattle.mpvq_offsets.specs.Offsets.{offsetOf}
 use Rattle.numbering.specs.Numbering.{pulsesOf, signBefore, leadSign, pushed, indexOf}
-use Rattle.numbering.proofs.Offsets.{mono, mono-rows}
+use Rattle.columns.proofs.Offsets.{mono, mono-rows}
 use Rattle.numbering.proofs.Bijection.{room}
 
 pub longer : (v : List ℤ) (at : ℕ) → 0 < at → at ≤ length v → drop (at - 1) v ≡ getD v (at - 1) (pos 0) ∷ drop at v

@@ -9,9 +9,10 @@ use lib.IntN.{ℤ, pos}
 use lib.ListN.{length, take, set, replicate}
 use Rattle.list_laws.proofs.Prefix.{prefix-more, prefix-all}
 use Rattle.mpvq_offsets.specs.Offsets.{offsetOf}
-use Rattle.numbering.specs.Numbering.{columnOf, signed, nextSign, nextIndex, vectorAt}
-use Rattle.numbering.proofs.Offsets.{first, second}
-use Rattle.numbering.proofs.Columns.{column-zero}
+use Rattle.numbering.specs.Numbering.{signed, nextSign, nextIndex, vectorAt}
+use Rattle.columns.specs.Column.{columnOf}
+use Rattle.columns.proofs.Offsets.{first, second}
+use Rattle.columns.proofs.Columns.{column-zero}
 use Rattle.numbering.proofs.Bijection.{no-pulse, none-there}
 
 -- index zero: all pulses stand at the first place

@@ -1,12 +1,11 @@
 -- The numbering of pulse vectors, as LC3 has it, for any dimension and pulse count. Definitions only.
 -- A(n,k) is `offsetOf n k`, and the size A(0,K) + ... + A(n-1,K) is `sizeOf n K`: both stand with the table of offsets.
 use mathlib.Core.Path.{_≡_}
-use mathlib.Core.Bool.{Bool, true, false, cond}
 use mathlib.Core.List.{List, [], _∷_}
 use Prim.Native.Nat.{ℕ, zero, suc, _+_, _-_, _*_, _/_, _%_}
-use lib.Dec.{leb}
 use lib.IntN.{ℤ, pos, negsuc, natAbs}
 use lib.ListN.{length}
+use Rattle.columns.specs.Column.{columnOf}
 use Rattle.mpvq_offsets.specs.Offsets.{offsetOf}
 
 -- the pulses of a vector: its absolute values' sum
@@ -44,11 +43,7 @@ unfoldable pub indexOf : List ℤ → ℕ
 indexOf [] = 0
 indexOf (x ∷ v) = offsetOf (length v) (pulsesOf v) + pushed x (indexOf v) (leadSign v)
 
--- UNPACKING, the same read backwards. The pulses left after a place are the greatest column, from k down, whose offset is
--- at most the index.
-unfoldable pub columnOf : ℕ → ℕ → ℕ → ℕ
-columnOf n zero index = 0
-columnOf n (suc k) index = cond (leb (offsetOf n (suc k)) index) (suc k) (columnOf n k index)
+-- UNPACKING, the same read backwards. The pulses left after a place are the column that the index falls into, `columnOf`.
 
 -- d pulses of a sign: positive for 0, negative for any other
 unfoldable pub signed : ℕ → ℕ → ℤ

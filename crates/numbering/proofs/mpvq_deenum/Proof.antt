@@ -12,7 +12,7 @@ use mir.Syntax.{w32}
 use mir.Val.{toZ, ofZ}
 use mir.Facts.{toZ-ofZ}
 use Rattle.numbering.specs.Numbering.{vectorAt}
-use Rattle.numbering.proofs.Columns.{column-within}
+use Rattle.columns.proofs.Columns.{column-within}
 use Rattle.numbering.proofs.Walk.{goes-on, stops, ended}
 use Rattle.numbering.proofs.mpvq_deenum.Statement.{statement}
 use Rattle.numbering.proofs.mpvq_deenum.Tie as tie

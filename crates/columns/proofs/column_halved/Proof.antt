@@ -4,11 +4,11 @@ use Prim.Native.Nat.{_+_, _/_, _≤_, _<_}
 use borrow.Author.Needs.{needs}
 use native.Mathlib.Omega.{arith}
 use Rattle.mpvq_offsets.specs.Offsets.{offsetOf}
-use Rattle.numbering.specs.Numbering.{columnOf}
-use Rattle.numbering.proofs.Offsets.{first}
-use Rattle.numbering.proofs.Columns.{column-from, column-under, column-within, left-is}
-use Rattle.numbering.proofs.column_halved.Statement.{statement}
-use Rattle.numbering.proofs.column_halved.Tie as tie
+use Rattle.columns.specs.Column.{columnOf}
+use Rattle.columns.proofs.Offsets.{first}
+use Rattle.columns.proofs.Columns.{column-from, column-under, column-within, left-is}
+use Rattle.columns.proofs.column_halved.Statement.{statement}
+use Rattle.columns.proofs.column_halved.Tie as tie
 
 abbrev Inv-loop : tie.InvT-loop
 Inv-loop n ind low₀ offset₀ width₀ low offset width =

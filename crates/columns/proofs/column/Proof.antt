@@ -6,11 +6,11 @@ use borrow.Author.Needs.{needs}
 use native.Mathlib.Omega.{arith}
 use Rattle.mpvq_offsets.specs.Offsets.{offsetOf}
 use Rattle.mpvq_offsets.proofs.Offsets.{at-place}
-use Rattle.numbering.specs.Numbering.{columnOf}
-use Rattle.numbering.proofs.Offsets.{mono}
-use Rattle.numbering.proofs.Columns.{column-falls, Found, found-here, found-next, left-is}
-use Rattle.numbering.proofs.column.Statement.{statement}
-use Rattle.numbering.proofs.column.Tie as tie
+use Rattle.columns.specs.Column.{columnOf}
+use Rattle.columns.proofs.Offsets.{mono}
+use Rattle.columns.proofs.Columns.{column-falls, Found, found-here, found-next, left-is}
+use Rattle.columns.proofs.column.Statement.{statement}
+use Rattle.columns.proofs.column.Tie as tie
 
 mul-at : tie.Need-mul-at
 mul-at c = search needs

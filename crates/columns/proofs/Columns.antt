@@ -8,8 +8,8 @@ use native.Mathlib.Omega.{arith}
 use borrow.Author.Tests.{leb-true, leb-false}
 use lib.Dec.{leb}
 use Rattle.mpvq_offsets.specs.Offsets.{offsetOf}
-use Rattle.numbering.specs.Numbering.{columnOf}
-use Rattle.numbering.proofs.Offsets.{first, mono, above-zero}
+use Rattle.columns.specs.Column.{columnOf}
+use Rattle.columns.proofs.Offsets.{first, mono, above-zero}
 
 pub record Column (n m i k : ℕ) : Type 0 where
   pub within : k ≤ m
