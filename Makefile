@@ -3,7 +3,7 @@
 
 help:
 	@echo 'make run       build the program quantize and run it on the recorded frames; it ends with how many there were'
-	@echo 'make test      the gate: format, the Rust comparisons, then every proof, must-fail edit and program from nothing'
+	@echo 'make test      the gate: format, every proof, must-fail edit and program from nothing, then the Rust comparisons on what was proved'
 	@echo 'make check     prove what changed since the last time, and run the programs: the quick loop'
 	@echo 'make staticlib the library for C and Rust: target/staticlib/libsns_c.a, with include/lc3_sns.h'
 	@echo 'make bindings  the library called from C and from bindings/rust (see tests/bindings.sh)'
@@ -26,11 +26,7 @@ run: kit
 
 test: kit
 	rt fmt --check
-	sh tests/rust_at_hand.sh sh tests/tables/record.sh --check
-	sh tests/rust_at_hand.sh sh tests/frames/record.sh --check
-	COMPARE=short sh tests/rust_at_hand.sh $(MAKE) compare
-	sh tests/rust_at_hand.sh sh tests/bindings.sh
-	rt ci
+	sh tests/gate.sh
 
 check: kit
 	rt check

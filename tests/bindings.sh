@@ -1,5 +1,6 @@
 #!/bin/sh
-# Builds the archive and runs its callers against it: the tests of bindings/rust, and a C program.
+# Builds the archive and runs its callers against it: the tests of bindings/rust, and a C program. With --made it takes the
+# archive that is there, if there is one.
 set -e
 cd "$(dirname "$0")/.."
 processor=$(uname -m)
@@ -10,7 +11,7 @@ fi
 for tool in rt cc cargo; do
     command -v $tool >/dev/null || { echo "bindings: $tool is missing (rt: the Rattle kit; cc: Debian's gcc; cargo: Debian's cargo)."; exit 1; }
 done
-rt staticlib sns_c
+if [ "${1:-}" != --made ] || [ ! -f target/staticlib/libsns_c.a ]; then rt staticlib sns_c; fi
 made=$(mktemp -d)
 trap 'rm -rf "$made"' EXIT
 cc -std=c11 -Wall -Wextra -Werror -Iinclude tests/c/calls.c target/staticlib/libsns_c.a -lm -o "$made/calls"
