@@ -1,4 +1,4 @@
--- What the tests for NaN and infinities say, the answers in the words of the refusals, a row one after another, and what a row that is taken says of each factor. Assumes nothing.
+-- What the tests for NaN and infinities say, a row one after another, and what a row that is taken says of each factor. Assumes nothing.
 use mathlib.Core.Path.{_≡_, refl, sym, ap, subst}
 use mathlib.Core.Bool.{Bool, true, false, _||_, cond, false≢true}
 use mathlib.Core.List.{List, [], _∷_}
@@ -18,8 +18,10 @@ use Rattle.float_laws.proofs.Logic.{yes, no}
 use Rattle.factor.specs.declared.Checked.{Checked}
 use Rattle.factor.specs.declared.Checked.the-variants as answer
 use Rattle.factor.specs.declared.Scanned.{Scanned}
-use Rattle.factor.specs.declared.Scanned.the-variants.{Taken, Refused}
-use Rattle.factor.specs.Check.{factorLimit, beyond, refusalOf, checkedOf, numberOf, valueOf, carriedBy, unlessTaken, firstFrom, firstRefused, notFiniteFrom}
+use Rattle.factor.specs.declared.Scanned.the-variants as row
+use Rattle.factor.specs.declared.Scanned.the-variants.{Taken}
+use Rattle.factor.specs.declared.Place.the-variants.{At}
+use Rattle.factor.specs.Check.{factorLimit, beyond, checkedOf, unlessWithin, firstFrom, firstRefused, notFiniteFrom}
 
 -- ---- a value that differs from itself, or equals an infinity, isn't finite
 pub nan-not : (x : Float) → ne x x ≡ true → finite x ≡ false
@@ -31,35 +33,18 @@ infinity-not nan s h = refl
 infinity-not (inf t) s h = refl
 infinity-not (fin t m e) s h = absurd (false≢true h)
 
--- ---- one factor
-pub number-is : (limit x : Float) → numberOf (checkedOf limit x) ≡ refusalOf limit x
-number-is limit x = by (finite x) (beyond limit x)
-  where
-    by : (f b : Bool) → numberOf (cond f (cond b (answer.TooFar x) (answer.Within x)) answer.NotFinite) ≡ cond f (cond b 8 0) 7
-    by true true = refl
-    by true false = refl
-    by false b = refl
-
-pub value-is : (limit x : Float) → valueOf (checkedOf limit x) ≡ carriedBy x
-value-is limit x = by (finite x) (beyond limit x)
-  where
-    by : (f b : Bool) → valueOf (cond f (cond b (answer.TooFar x) (answer.Within x)) answer.NotFinite) ≡ cond f x (plus 0 0)
-    by true true = refl
-    by true false = refl
-    by false b = refl
-
 pub limit-finite : T (finite factorLimit)
 unfolding factorLimit plus
 limit-finite = tt
 
 -- ---- a row: what is left from i on starts with the factor, or the value, at i
 pub first-at : (limit : Float) (xs : List Float) (i : ℕ) (k : Checked) → i < length xs → k ≡ checkedOf limit (getD xs i nan)
-    → firstFrom limit i (drop i xs) ≡ unlessTaken (numberOf k) i (firstFrom limit (i + 1) (drop (i + 1) xs))
+    → firstFrom limit i (drop i xs) ≡ unlessWithin k i (firstFrom limit (i + 1) (drop (i + 1) xs))
 unfolding firstFrom
 first-at limit xs i k h e = rw (drop-cons xs i nan h, add-one, e)
 
 pub value-at : (xs : List Float) (i : ℕ) (f : Bool) → i < length xs → f ≡ finite (getD xs i nan)
-    → notFiniteFrom i (drop i xs) ≡ cond f (notFiniteFrom (i + 1) (drop (i + 1) xs)) (Refused 12 i)
+    → notFiniteFrom i (drop i xs) ≡ cond f (notFiniteFrom (i + 1) (drop (i + 1) xs)) (At i)
 unfolding notFiniteFrom
 value-at xs i f h e = rw (drop-cons xs i nan h, add-one, e)
 
@@ -80,19 +65,17 @@ pub taken-within : (m : ℕ) (e : ℤ) (xs : List Float) → firstRefused (fin f
 unfolding firstFrom
 taken-within m e xs = from xs 0
   where
-    other : {n p : ℕ} → Refused n p ≡ Taken → ⊥
-    other h = subst refused h tt
-      where
-        refused : Scanned → Type 0
-        refused Taken = ⊥
-        refused (Refused n p) = Unit
+    refused : Scanned → Type 0
+    refused Taken = ⊥
+    refused (row.TooFar p) = Unit
+    refused (row.NotFinite p) = Unit
 
     -- the first is taken, and so are the rest
     parted : (limit x : Float) (place : ℕ) (f b : Bool) (rest : Scanned) → finite x ≡ f → beyond limit x ≡ b
-        → unlessTaken (numberOf (cond f (cond b (answer.TooFar x) (answer.Within x)) answer.NotFinite)) place rest ≡ Taken → (T (finite x)) × (beyond limit x ≡ false) × (rest ≡ Taken)
-    parted limit x place true true rest p q h = absurd (other h)
+        → unlessWithin (cond f (cond b (answer.TooFar x) (answer.Within x)) answer.NotFinite) place rest ≡ Taken → (T (finite x)) × (beyond limit x ≡ false) × (rest ≡ Taken)
+    parted limit x place true true rest p q h = absurd (subst refused h tt)
     parted limit x place true false rest p q h = (yes p, q, h)
-    parted limit x place false b rest p q h = absurd (other h)
+    parted limit x place false b rest p q h = absurd (subst refused h tt)
 
     from : (xs : List Float) (place : ℕ) → firstFrom (fin false m e) place xs ≡ Taken → (i : ℕ) → i < length xs → Within (getD xs i nan) (m * up e) (down e)
     from [] place h i l = absurd (not-suc-le-zero l)

@@ -3,7 +3,7 @@
 ghost use mathlib.Core.Path.{_≡_};
 ghost use lib.Dec.{T};
 ghost use Rattle.float_laws.specs.Kind.{finite};
-ghost use Rattle.factor.specs.Check.{factorLimit, checkedOf, numberOf, valueOf, refusalOf, carriedBy, firstRefused, firstNotFinite};
+ghost use Rattle.factor.specs.Check.{factorLimit, checkedOf, firstRefused, firstNotFinite};
 
 // The answer for one factor: the factor itself, the offending value, or nothing.
 pub enum Checked {
@@ -46,17 +46,16 @@ pub fn check_against(x: f32, limit: f32) -> Checked
 
 // Checks one factor.
 pub fn check_factor(x: f32) -> Checked
-    ensures answer { λ r. ⌜ r ≡ checkedOf factorLimit x ⌝ }
-    ensures number { λ r. ⌜ numberOf r ≡ refusalOf factorLimit x ⌝ }
-    ensures value { λ r. ⌜ valueOf r ≡ carriedBy x ⌝ }
+    ensures { λ r. ⌜ r ≡ checkedOf factorLimit x ⌝ }
 {
     check_against(x, factor_limit())
 }
 
-// What a row is answered: all are taken, or the number and place of the first that is not.
+// What a row of factors is answered: all are taken, or the place of the first that is not, and why.
 pub enum Scanned {
     Taken,
-    Refused(u32, usize),
+    TooFar(usize),
+    NotFinite(usize),
 }
 
 // The first refused factor, by place.
@@ -68,8 +67,8 @@ pub fn first_refused(factors: &[f32], limit: f32) -> Scanned
     while i < factors.len() {
         match check_against(factors[i], limit) {
             Checked::Within(_) => {}
-            Checked::TooFar(_) => return Scanned::Refused(8, i),
-            Checked::NotFinite => return Scanned::Refused(7, i),
+            Checked::TooFar(_) => return Scanned::TooFar(i),
+            Checked::NotFinite => return Scanned::NotFinite(i),
         }
         i += 1;
     }
@@ -89,16 +88,22 @@ fn is_finite(x: f32) -> bool
     x != -infinity
 }
 
+// Where the first of a row stands that is looked for, if any does.
+pub enum Place {
+    Nowhere,
+    At(usize),
+}
+
 // The first value that is NaN or infinite, by place.
-pub fn first_not_finite(values: &[f32]) -> Scanned
+pub fn first_not_finite(values: &[f32]) -> Place
     ensures { λ r. ⌜ r ≡ firstNotFinite (now (values .entry)) ⌝ }
 {
     let mut i = 0usize;
     while i < values.len() {
         if !is_finite(values[i]) {
-            return Scanned::Refused(12, i);
+            return Place::At(i);
         }
         i += 1;
     }
-    Scanned::Taken
+    Place::Nowhere
 }

@@ -12,18 +12,25 @@ use Rattle.list_laws.specs.Every.{both, every}
 use Rattle.list_laws.proofs.Every.{both-left, both-right}
 use Rattle.factor.specs.declared.Checked.the-variants as checked
 use Rattle.factor.specs.declared.Scanned.{Scanned}
-use Rattle.factor.specs.declared.Scanned.the-variants.{Taken, Refused}
-use Rattle.factor.specs.Check.{beyond, numberOf, unlessTaken, firstFrom, firstRefused, notFiniteFrom, firstNotFinite}
+use Rattle.factor.specs.declared.Scanned.the-variants.{Taken, TooFar, NotFinite}
+use Rattle.factor.specs.declared.Place.{Place}
+use Rattle.factor.specs.declared.Place.the-variants.{Nowhere, At}
+use Rattle.factor.specs.Check.{beyond, unlessWithin, firstFrom, firstRefused, notFiniteFrom, firstNotFinite}
 use Rattle.refusals.specs.declared.Answer.{Answer}
 use Rattle.refusals.specs.declared.Answer.the-variants.{Done, No}
 use Rattle.refusals.specs.Answers.{answerOf}
 use Rattle.refusals.specs.Elements.{factorQuestions, valueQuestions}
 use Rattle.refusals.proofs.Answers.{no-not-done, none-left, not-given, done}
 
--- a scan's result as an answer
+-- a scan's result as an answer: 7 and 8 for factors, 12 for other values
 scanned : Scanned → Answer
 scanned Taken = Done
-scanned (Refused number place) = No number place
+scanned (NotFinite place) = No 7 place
+scanned (TooFar place) = No 8 place
+
+found : Place → Answer
+found Nowhere = Done
+found (At place) = No 12 place
 
 factors-from : (limit : Float) (place : ℕ) (xs : List Float) → answerOf (factorQuestions limit place xs) ≡ scanned (firstFrom limit place xs)
 unfolding factorQuestions answerOf firstFrom scanned
@@ -32,14 +39,18 @@ factors-from limit place (x ∷ xs) = by (finite x) (beyond limit x) _ _ (factor
   where
     by : (f b : Bool) (rest : Answer) (more : Scanned) → rest ≡ scanned more
         → cond (not f) (No 7 place) (cond b (No 8 place) rest)
-        ≡ scanned (unlessTaken (numberOf (cond f (cond b (checked.TooFar x) (checked.Within x)) checked.NotFinite)) place more)
+        ≡ scanned (unlessWithin (cond f (cond b (checked.TooFar x) (checked.Within x)) checked.NotFinite) place more)
     by true true r m e = refl
     by true false r m e = e
     by false b r m e = refl
 
-pub refused-factor : (limit : Float) (xs : List Float) (number place : ℕ) → Refused number place ≡ firstRefused limit xs → No number place ≡ answerOf (factorQuestions limit 0 xs)
+pub not-finite-factor : (limit : Float) (xs : List Float) (place : ℕ) → NotFinite place ≡ firstRefused limit xs → No 7 place ≡ answerOf (factorQuestions limit 0 xs)
 unfolding scanned
-refused-factor limit xs number place e = ap scanned e ∙ sym (factors-from limit 0 xs)
+not-finite-factor limit xs place e = ap scanned e ∙ sym (factors-from limit 0 xs)
+
+pub too-far-factor : (limit : Float) (xs : List Float) (place : ℕ) → TooFar place ≡ firstRefused limit xs → No 8 place ≡ answerOf (factorQuestions limit 0 xs)
+unfolding scanned
+too-far-factor limit xs place e = ap scanned e ∙ sym (factors-from limit 0 xs)
 
 pub factors-taken : (limit : Float) (xs : List Float) → Taken ≡ firstRefused limit xs → Done ≡ answerOf (factorQuestions limit 0 xs)
 unfolding scanned
@@ -52,25 +63,26 @@ done-taken limit xs e = go (firstRefused limit xs) (sym (factors-from limit 0 xs
   where
     go : (r : Scanned) → scanned r ≡ Done → r ≡ Taken
     go Taken h = refl
-    go (Refused number place) h = absurd (no-not-done number place h)
+    go (NotFinite place) h = absurd (no-not-done 7 place h)
+    go (TooFar place) h = absurd (no-not-done 8 place h)
 
 -- the values, in the same way
-values-from : (place : ℕ) (xs : List Float) → answerOf (valueQuestions place xs) ≡ scanned (notFiniteFrom place xs)
-unfolding valueQuestions answerOf notFiniteFrom scanned
+values-from : (place : ℕ) (xs : List Float) → answerOf (valueQuestions place xs) ≡ found (notFiniteFrom place xs)
+unfolding valueQuestions answerOf notFiniteFrom found
 values-from place [] = refl
 values-from place (x ∷ xs) = by (finite x) _ _ (values-from (suc place) xs)
   where
-    by : (f : Bool) (rest : Answer) (more : Scanned) → rest ≡ scanned more → cond (not f) (No 12 place) rest ≡ scanned (cond f more (Refused 12 place))
+    by : (f : Bool) (rest : Answer) (more : Place) → rest ≡ found more → cond (not f) (No 12 place) rest ≡ found (cond f more (At place))
     by true r m e = e
     by false r m e = refl
 
-pub refused-value : (xs : List Float) (number place : ℕ) → Refused number place ≡ firstNotFinite xs → No number place ≡ answerOf (valueQuestions 0 xs)
-unfolding scanned
-refused-value xs number place e = ap scanned e ∙ sym (values-from 0 xs)
+pub refused-value : (xs : List Float) (place : ℕ) → At place ≡ firstNotFinite xs → No 12 place ≡ answerOf (valueQuestions 0 xs)
+unfolding found
+refused-value xs place e = ap found e ∙ sym (values-from 0 xs)
 
-pub values-taken : (xs : List Float) → Taken ≡ firstNotFinite xs → Done ≡ answerOf (valueQuestions 0 xs)
-unfolding scanned
-values-taken xs e = ap scanned e ∙ sym (values-from 0 xs)
+pub values-taken : (xs : List Float) → Nowhere ≡ firstNotFinite xs → Done ≡ answerOf (valueQuestions 0 xs)
+unfolding found
+values-taken xs e = ap found e ∙ sym (values-from 0 xs)
 
 -- ---- done exactly when every element is as it should be
 pair : (a b : Bool) → T a → T b → T (both a b)

@@ -3,7 +3,7 @@ use mathlib.Core.Path.{_≡_}
 use mathlib.Core.List.{List}
 use Prim.Native.Nat.{ℕ}
 use Rattle.factor.specs.declared.Checked.{Checked}
-use Rattle.factor.specs.Check as check
+use Rattle.sns_check.specs.CheckFactor as check
 use Rattle.refusals.specs.declared.Answer.{Answer}
 use Rattle.frame_fields.specs.declared.Fields.{Fields}
 use Rattle.sns_number.specs.declared.pack.Packed.{Packed}

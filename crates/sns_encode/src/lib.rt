@@ -26,7 +26,8 @@ fn refusal(factors: &[f32], len: usize) -> Answer
         return Answer::No(9, 0);
     }
     match factor::first_refused(factors, factor::factor_limit()) {
-        Scanned::Refused(number, place) => Answer::No(number, place),
+        Scanned::NotFinite(place) => Answer::No(7, place),
+        Scanned::TooFar(place) => Answer::No(8, place),
         Scanned::Taken => Answer::Done,
     }
 }

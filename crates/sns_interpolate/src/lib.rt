@@ -18,7 +18,8 @@ pub fn interpolate(factors: &[f32], band_count: u32, bands: &mut [f32]) -> Answe
         return Answer::No(9, 0);
     }
     match factor::first_refused(factors, interpolation::band_limit()) {
-        Scanned::Refused(number, place) => Answer::No(number, place),
+        Scanned::NotFinite(place) => Answer::No(7, place),
+        Scanned::TooFar(place) => Answer::No(8, place),
         Scanned::Taken => {
             interpolation::interpolate(&rows::sixteen(factors), bands);
             Answer::Done

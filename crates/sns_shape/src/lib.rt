@@ -1,5 +1,5 @@
 // Shaping: each spectrum line times the linear gain of its band.
-use factor::Scanned;
+use factor::Place;
 use refusals::Answer;
 ghost use Rattle.sns_shape.specs.Shape.{ShapeSays};
 
@@ -23,12 +23,12 @@ pub fn shape(rate: u32, ten_ms: bool, band_count: u32, gains: &[f32], lines: &mu
     if count < end {
         return Answer::No(9, 0);
     }
-    if let Scanned::Refused(number, place) = factor::first_not_finite(gains) {
-        return Answer::No(number, place);
+    if let Place::At(place) = factor::first_not_finite(gains) {
+        return Answer::No(12, place);
     }
     match factor::first_not_finite(&lines[0..end]) {
-        Scanned::Refused(number, place) => Answer::No(number, place),
-        Scanned::Taken => {
+        Place::At(place) => Answer::No(12, place),
+        Place::Nowhere => {
             shaping::shape(rate as usize, ten_ms, gains, lines);
             Answer::Done
         }

@@ -3,7 +3,7 @@ use mathlib.Core.Path.{_≡_, sym, ap, _∙_}
 use Prim.Native.Nat.{_+_, _-_, _≤_}
 use lib.ListN.{length, drop, drop-of-length-le}
 use Rattle.factor.specs.declared.Checked.{Checked}
-use Rattle.factor.specs.Check.{firstFrom, firstRefused, unlessTaken, numberOf}
+use Rattle.factor.specs.Check.{firstFrom, firstRefused, unlessWithin}
 use Rattle.factor.proofs.Laws.{first-at}
 use borrow.Author.Needs.{needs}
 use Rattle.factor.proofs.first_refused.Statement.{statement}
@@ -15,12 +15,12 @@ Inv-loop factors limit i₀ i = (i ≤ length factors) × (firstRefused limit fa
 abbrev μ-loop : tie.MeasureT-loop
 μ-loop factors limit i₀ i = length factors - i
 
--- what the check of the factor at i has left: its number is the answer, or the rest's answer is
+-- what the check of the factor at i has left: its answer is the row's, or the rest's answer is
 told : (c : tie.After-check-against Inv-loop μ-loop) (k : Checked) → c .check-against .result ≡ k
     → let l = c .before .before .before in
     let f = l .before .before .args .factors .now in
     let limit = l .before .before .args .limit in
-    firstRefused limit f ≡ unlessTaken (numberOf k) (l .loop .i) (firstFrom limit (l .loop .i + 1) (drop (l .loop .i + 1) f))
+    firstRefused limit f ≡ unlessWithin k (l .loop .i) (firstFrom limit (l .loop .i + 1) (drop (l .loop .i + 1) f))
 told c k h =
     let l = c .before .before .before in
     l .loop .inv .1 ∙ first-at _ _ (l .loop .i) k (c .before .before .loop-test .taken) (sym h ∙ c .check-against .ensures)

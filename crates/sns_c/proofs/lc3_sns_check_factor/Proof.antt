@@ -4,7 +4,8 @@ use borrow.Author.Needs.{needs}
 use lib.Ieee.{ofBits}
 use Rattle.float_laws.specs.Decimal.{plus}
 use Rattle.factor.specs.declared.Checked.{Checked}
-use Rattle.factor.specs.Check.{factorLimit, checkedOf, numberOf, valueOf}
+use Rattle.factor.specs.Check.{factorLimit, checkedOf}
+use Rattle.sns_check.specs.CheckFactor.{numberOf, valueOf}
 use Rattle.sns_c.proofs.lc3_sns_check_factor.Statement.{statement}
 use Rattle.sns_c.proofs.lc3_sns_check_factor.Tie as tie
 

@@ -63,13 +63,13 @@ returns-4 c =
 first-not-finite-requires : tie.Need-first-not-finite-requires
 first-not-finite-requires c κs = search needs
 
-enum-known-number : tie.Need-enum-known-number
-enum-known-number c = search needs
+enum-known-place : tie.Need-enum-known-place
+enum-known-place c = search needs
 
 returns-5 : tie.Need-returns-5
 returns-5 c =
     let v = c .before .before .before in
-    (by-gains _ _ _ _ _ (fitting (v .before)) (refused-value _ _ _ (sym (c .before .number .given .1) ∙ v .first-not-finite .ensures)), refl)
+    (by-gains _ _ _ _ _ (fitting (v .before)) (refused-value _ _ (sym (c .before .place .given .1) ∙ v .first-not-finite .ensures)), refl)
 
 enum-told : tie.Need-enum-told
 enum-told c = search needs
@@ -86,8 +86,8 @@ part-first-not-finite-end c = search needs
 first-not-finite-requires-2 : tie.Need-first-not-finite-requires-2
 first-not-finite-requires-2 c κs = search needs
 
-enum-known-number-2 : tie.Need-enum-known-number-2
-enum-known-number-2 c = search needs
+enum-known-place-2 : tie.Need-enum-known-place-2
+enum-known-place-2 c = search needs
 
 enum-told-2 : tie.Need-enum-told-2
 enum-told-2 c = search needs
@@ -105,7 +105,7 @@ returns-6 c =
     let w = c .before .before .before in
     let t = w .before .before .before in
     let v = t .before .before in
-    (by-lines _ _ _ _ _ (fitting (v .before)) (values-taken _ (sym (t .enum-told .given .1) ∙ v .first-not-finite .ensures)) (refused-value _ _ _ (sym (c .before .number2 .given .1) ∙ lines-say w)), refl)
+    (by-lines _ _ _ _ _ (fitting (v .before)) (values-taken _ (sym (t .enum-told .given .1) ∙ v .first-not-finite .ensures)) (refused-value _ _ (sym (c .before .place2 .given .1) ∙ lines-say w)), refl)
 
 same-length-2 : tie.Need-same-length-2
 same-length-2 c = search needs
@@ -122,4 +122,4 @@ returns-7 c =
 pub shape-spec : {M : Type 1} → statement M
 shape-spec =
     tie.close
-    (tie.spec returns bands-of-requires returns-2 returns-3 last-limit-requires returns-4 first-not-finite-requires enum-known-number returns-5 enum-told sub-first-not-finite part-first-not-finite-start part-first-not-finite-end first-not-finite-requires-2 enum-known-number-2 enum-told-2 shape-requires same-length returns-6 same-length-2 returns-7)
+    (tie.spec returns bands-of-requires returns-2 returns-3 last-limit-requires returns-4 first-not-finite-requires enum-known-place returns-5 enum-told sub-first-not-finite part-first-not-finite-start part-first-not-finite-end first-not-finite-requires-2 enum-known-place-2 enum-told-2 shape-requires same-length returns-6 same-length-2 returns-7)
