@@ -1,6 +1,6 @@
 -- The claims of specs/EncodeClaims.antt: the quantizer's, at the call. Assumes nothing.
 use mathlib.Core.Path.{_≡_, refl, sym, _∙_, subst}
-use mathlib.Core.List.{List, append-nil}
+use mathlib.Core.List.{List}
 use Prim.Native.Nat.{ℕ, zero, suc, _<_}
 use borrow.Author.Tests.{not-false, eqb-true}
 use lib.Dec.{lit<, lit≤}
@@ -10,17 +10,17 @@ use Rattle.float_laws.proofs.Size.{within-up}
 use Rattle.float_laws.specs.Bounded.{Bounded}
 use Rattle.factor.specs.Check.{factorLimit}
 use Rattle.factor.proofs.Laws.{within-limit}
-use Rattle.shapes.specs.Sets.{setA, setB}
+use Rattle.shapes.specs.Sets.{setA}
 use Rattle.mpvq_offsets.specs.Offsets.{sizeOf}
-use Rattle.numbering.specs.Numbering.{indexOf, vectorAt}
+use Rattle.numbering.specs.Numbering.{indexOf}
 use Rattle.numbering.proofs.Claims.{claim}
-use Rattle.decoder_pulses.specs.Pulses.{pulsesAt, Indexed}
+use Rattle.decoder_pulses.specs.Pulses.{Indexed}
 use Rattle.stage1.specs.Stage1.{residual}
 use Rattle.stage2_target.specs.Target.{targetOf}
 use Rattle.sns_tables.specs.Gains.{gainsOf}
 use Rattle.candidates.specs.Scan.{winnerOf}
 use Rattle.candidates.proofs.Choices.{choice-gain, winner-under}
-use Rattle.stage2.specs.Numbers.{partA, partB, indexB, signB, numbersOf, bothSets, unpackedOf}
+use Rattle.stage2.specs.Numbers.{partA, partB, indexB, signB, numbersOf, unpackedOf}
 use Rattle.stage2.specs.Stage2.{candidatesOf, choiceOf, selectedOf, signedFor, answerOf, stage2Of}
 use Rattle.stage2.proofs.Claims.{none-below}
 use Rattle.stage2.proofs.Winner.{set-a, set-b, unpacks}
@@ -70,15 +70,6 @@ some (suc zero) = lit< tt
 some (suc (suc zero)) = lit< tt
 some (suc (suc (suc s))) = lit< tt
 
--- both ways of putting the sets together are one
-same-sets : (s : ℕ) (signA indexA signB indexB : ℕ)
-    → pulsesAt s signA indexA signB indexB ≡ bothSets s (vectorAt (setA s .dimension) (setA s .pulses) signA indexA) (vectorAt (setB .dimension) (setB .pulses) signB indexB)
-unfolding bothSets
-same-sets zero a i b j = refl
-same-sets (suc zero) a i b j = refl
-same-sets (suc (suc zero)) a i b j = append-nil _
-same-sets (suc (suc (suc s))) a i b j = append-nil _
-
 -- the numbers of a shape's pulses are in use below their ends
 module _ (t : List Float) (s : ℕ) where
   indexed : let n = numbersOf s (signedFor t s) in Indexed s (n .«ls_inda») (n .idxa) (n .«ls_indb») (n .idxb)
@@ -108,5 +99,5 @@ decodes-again factors =
             long = refl;
             fields = record { low-row = i .0; high-row = i .1; shape-below = i .2; gain-below = gain-below t; indexed = indexed t s };
           }),
-      same-sets s _ _ _ _ ∙ unpacks t s,
+      unpacks t s,
     )

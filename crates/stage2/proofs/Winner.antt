@@ -1,7 +1,7 @@
 -- The signed pulses of each shape: how many each set has, that its numbers lead back to them, and how large those are. Assumes nothing.
 use mathlib.Core.Path.{_≡_, refl, sym, ap, _∙_, subst}
 use mathlib.Core.Bool.{Bool, true, false}
-use mathlib.Core.List.{List, [], _∷_, _++_}
+use mathlib.Core.List.{List, [], _∷_, _++_, append-nil}
 use Prim.Native.Nat.{ℕ, zero, suc, _+_, _-_, _%_, _≤_, _<_}
 use native.Mathlib.Nat.{le-refl, le-trans, le-suc, le-of-eq, le-of-suc-le-suc, zero-add, mod-lt}
 use native.Mathlib.Omega.{arith}
@@ -24,7 +24,8 @@ use Rattle.stage2_target.specs.Target.{absolutesOf}
 use Rattle.candidates.specs.Candidate.{signedOf, signedAt}
 use Rattle.candidates.proofs.Claims.{signed-size}
 use Rattle.frame_fields.specs.Joint.{jointIndex}
-use Rattle.stage2.specs.Numbers.{partA, partB, indexB, signB, numbersOf, jointOf, Numberable, Small, bothSets, unpackedOf}
+use Rattle.decoder_pulses.specs.Pulses.{restAt}
+use Rattle.stage2.specs.Numbers.{partA, partB, indexB, signB, numbersOf, jointOf, Numberable, Small, unpackedOf}
 use Rattle.stage2.specs.Stage2.{pulsesFor, signedFor}
 
 -- ---- pulses of a list by its places
@@ -179,12 +180,12 @@ unpack-a t (suc zero) = regular-a .pack-unpack (partA 1 (signedFor t 1)) (set-a 
 unpack-a t (suc (suc zero)) = outlier-near .pack-unpack (partA 2 (signedFor t 2)) (set-a t 2)
 unpack-a t (suc (suc (suc s))) = outlier-far .pack-unpack (partA (suc (suc (suc s))) (signedFor t (suc (suc (suc s))))) (set-a t (suc (suc (suc s))))
 
-join-sets : (t : List Float) (s : ℕ) (b : List ℤ) → (s ≡ 0 → b ≡ partB (signedFor t 0)) → bothSets s (partA s (signedFor t s)) b ≡ signedFor t s
-unfolding bothSets partA partB signedFor shapePulses
-join-sets t zero b e = ap (λ (w : List ℤ). take 10 (signedFor t 0) ++ w) (e refl) ∙ parts t (pulsesFor t 0)
-join-sets t (suc zero) b e = empty t (pulsesFor t 1) (one-zero (absolutesOf t))
-join-sets t (suc (suc zero)) b e = take-all 16 _ (le-of-eq (v-length t (pulsesFor t 2)))
-join-sets t (suc (suc (suc s))) b e = take-all 16 _ (le-of-eq (v-length t (pulsesFor t (suc (suc (suc s))))))
+join-sets : (t : List Float) (s sign index : ℕ) → (s ≡ 0 → vectorAt 6 1 sign index ≡ partB (signedFor t 0)) → partA s (signedFor t s) ++ restAt s sign index ≡ signedFor t s
+unfolding partA partB signedFor shapePulses
+join-sets t zero sign index e = ap (λ (w : List ℤ). take 10 (signedFor t 0) ++ w) (e refl) ∙ parts t (pulsesFor t 0)
+join-sets t (suc zero) sign index e = empty t (pulsesFor t 1) (one-zero (absolutesOf t))
+join-sets t (suc (suc zero)) sign index e = append-nil _ ∙ take-all 16 _ (le-of-eq (v-length t (pulsesFor t 2)))
+join-sets t (suc (suc (suc s))) sign index e = append-nil _ ∙ take-all 16 _ (le-of-eq (v-length t (pulsesFor t (suc (suc (suc s))))))
 
 unpack-b : (t : List Float) → vectorAt 6 1 (signB 0 (signedFor t 0)) (indexB 0 (signedFor t 0)) ≡ partB (signedFor t 0)
 unfolding signB indexB
@@ -193,8 +194,8 @@ unpack-b t = regular-b .pack-unpack (partB (signedFor t 0)) (set-b t)
 pub unpacks : (t : List Float) (s : ℕ) → unpackedOf s (numbersOf s (signedFor t s)) ≡ signedFor t s
 unfolding unpackedOf numbersOf
 unpacks t s =
-    ap (λ (a : List ℤ). bothSets s a (vectorAt 6 1 (signB s (signedFor t s)) (indexB s (signedFor t s)))) (unpack-a t s)
-    ∙ join-sets t s _ (λ e. subst (λ (n : ℕ). vectorAt 6 1 (signB n (signedFor t n)) (indexB n (signedFor t n)) ≡ partB (signedFor t 0)) (sym e) (unpack-b t))
+    ap (λ (a : List ℤ). a ++ restAt s (signB s (signedFor t s)) (indexB s (signedFor t s))) (unpack-a t s)
+    ∙ join-sets t s _ _ (λ e. subst (λ (n : ℕ). vectorAt 6 1 (signB n (signedFor t n)) (indexB n (signedFor t n)) ≡ partB (signedFor t 0)) (sym e) (unpack-b t))
 
 -- ---- how large they are
 index-low : (t : List Float) (s : ℕ) → s < 2 → indexOf (partA s (signedFor t s)) < 2390004

@@ -1,12 +1,13 @@
 -- The numbers of a shape's signed pulses, and the joint index. Definitions only.
 use mathlib.Core.Path.{_≡_}
-use mathlib.Core.List.{List, _++_}
+use mathlib.Core.List.{List}
 use Prim.Native.Nat.{ℕ, zero, suc, _+_, _*_, _%_, _≤_, _<_}
-use lib.IntN.{ℤ, pos}
-use lib.ListN.{length, take, drop, replicate}
+use lib.IntN.{ℤ}
+use lib.ListN.{length, take, drop}
 use Rattle.frame_fields.specs.Joint.{jointIndex}
 use Rattle.shapes.specs.Sets.{setA, setB}
-use Rattle.numbering.specs.Numbering.{pulsesOf, indexOf, leadSign, vectorAt}
+use Rattle.numbering.specs.Numbering.{pulsesOf, indexOf, leadSign}
+use Rattle.decoder_pulses.specs.Pulses.{pulsesAt}
 use Rattle.stage2.specs.declared.Numbers.{Numbers}
 
 -- the places of set A: the first ten in shapes 0 and 1, all sixteen in shapes 2 and 3
@@ -46,12 +47,6 @@ pub record Small (gain : ℕ) (n : Numbers) : Type 0 where
   pub sign-b : n .«ls_indb» < 2
   pub gain-number : gain < 8
 
--- sixteen places of the two sets: set B has places in shape 0 alone, and shape 1 has no pulses there
-unfoldable pub bothSets : ℕ → List ℤ → List ℤ → List ℤ
-bothSets zero a b = a ++ b
-bothSets (suc zero) a b = a ++ replicate 6 (pos 0)
-bothSets (suc (suc s)) a b = a
-
--- a shape's numbers, unpacked
+-- a shape's numbers, unpacked: the decoder's pulses
 unfoldable pub unpackedOf : ℕ → Numbers → List ℤ
-unpackedOf shape n = bothSets shape (vectorAt (setA shape .dimension) (setA shape .pulses) (n .«ls_inda») (n .idxa)) (vectorAt (setB .dimension) (setB .pulses) (n .«ls_indb») (n .idxb))
+unpackedOf shape n = pulsesAt shape (n .«ls_inda») (n .idxa) (n .«ls_indb») (n .idxb)
