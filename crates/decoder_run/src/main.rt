@@ -1,10 +1,10 @@
 // Runs the decoder's side at its corners and prints what it computes, each f32 by its bit pattern.
 ghost use mathlib.Core.Path.{_≡_};
 ghost use lib.ListN.{length};
-ghost use Rattle.synthesis.specs.Claims.{Input};
+ghost use Rattle.decoder.specs.Decoded.{AcceptedFields};
 use factor::Checked;
+use frame_fields::Fields;
 use libc::STDOUT_FILENO;
-use sns_tables::spec_noise_shape_quant_tables as tables;
 
 // A float by its pattern. All NaNs are one.
 fn float(x: f32) {
@@ -121,35 +121,65 @@ fn interpolations() {
     );
 }
 
-// The bands of decoder inputs: rows, shape, gain, and both signs and indices.
-fn decode(
-    low: usize,
-    high: usize,
-    shape: usize,
-    gain: usize,
-    sign_a: u32,
-    index_a: u32,
-    sign_b: u32,
-    index_b: u32,
-)
-    requires { ⌜ Input low high shape gain «sign_a» «index_a» «sign_b» «index_b» ⌝ }
+// The bands of accepted fields.
+fn decode(f: Fields)
+    requires { ⌜ AcceptedFields f ⌝ }
 {
-    let lfcb = tables::lfcb();
-    let hfcb = tables::hfcb();
-    let d = sns_tables::by_columns::d_by_columns();
-    let roots = roots::roots();
-    let y = decoder_pulses::pulses(shape, sign_a, index_a, sign_b, index_b);
-    let factors = synthesis::factors(&lfcb, &hfcb, &d, &roots, low, high, shape, gain, &y);
-    bands(&factors);
+    bands(&decoder::factors(f));
 }
 
 // Each shape, its first and last gain, and both ends of the indices.
 fn syntheses() {
-    decode(0, 0, 0, 0, 0, 0, 0, 0);
-    decode(31, 31, 0, 1, 1, 2390003, 1, 5);
-    decode(17, 5, 1, 3, 0, 1, 0, 0);
-    decode(1, 2, 2, 3, 1, 15158271, 0, 0);
-    decode(3, 4, 3, 7, 0, 774911, 0, 0);
+    decode(Fields {
+        low_row: 0,
+        high_row: 0,
+        shape: 0,
+        gain: 0,
+        sign_a: 0,
+        sign_b: 0,
+        index_a: 0,
+        index_b: 0,
+    });
+    decode(Fields {
+        low_row: 31,
+        high_row: 31,
+        shape: 0,
+        gain: 1,
+        sign_a: 1,
+        sign_b: 1,
+        index_a: 2390003,
+        index_b: 5,
+    });
+    decode(Fields {
+        low_row: 17,
+        high_row: 5,
+        shape: 1,
+        gain: 3,
+        sign_a: 0,
+        sign_b: 0,
+        index_a: 1,
+        index_b: 0,
+    });
+    decode(Fields {
+        low_row: 1,
+        high_row: 2,
+        shape: 2,
+        gain: 3,
+        sign_a: 1,
+        sign_b: 0,
+        index_a: 15158271,
+        index_b: 0,
+    });
+    decode(Fields {
+        low_row: 3,
+        high_row: 4,
+        shape: 3,
+        gain: 7,
+        sign_a: 0,
+        sign_b: 0,
+        index_a: 774911,
+        index_b: 0,
+    });
 }
 
 // 80 lines of 8 kHz and 10 ms, and two past the last limit; the product of line 78 is infinite.

@@ -14,7 +14,8 @@ use Rattle.stage2.specs.Claims.{distortionWith}
 use Rattle.encoder.specs.Quantized.{quantizedOf}
 use Rattle.encoder.specs.Claims.{Nearest}
 use Rattle.refusals.specs.declared.Answer.the-variants.{Done}
-use Rattle.sns_decode.specs.Decode.{decodeAnswer, fieldPulses}
+use Rattle.sns_decode.specs.Decode.{decodeAnswer}
+use Rattle.decoder.specs.Decoded.{fieldPulses}
 use Rattle.sns_encode.specs.Encode.{encodeAnswer, fieldsOf}
 
 -- the answer's rows, shape and gain are the quantizer's rows and choice

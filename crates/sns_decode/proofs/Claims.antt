@@ -3,7 +3,8 @@ use mathlib.Core.Path.{_≡_, sym, ap, subst}
 use borrow.Author.Tests.{not-false, eqb-true, eq-eqb}
 use lib.ListN.{length}
 use Rattle.refusals.specs.declared.Answer.the-variants.{Done}
-use Rattle.sns_decode.specs.Decode.{decodeAnswer, fieldPulses, fieldFactors, decodeQuestions}
+use Rattle.sns_decode.specs.Decode.{decodeAnswer, decodeQuestions}
+use Rattle.decoder.specs.Decoded.{fieldPulses, fieldFactors}
 use Rattle.sns_decode.specs.Claims.{DecodePinned, PulsesPinned, DecodeKeeps, PulsesKeep, DecodeTaken, DecodeTakes, DecodeWithin}
 use Rattle.refusals.proofs.Answers.{done, not-given}
 use mathlib.Core.Bool.{not}

@@ -10,7 +10,8 @@ use Rattle.synthesis.specs.Claims.{Input}
 use Rattle.refusals.specs.declared.Answer.{Answer}
 use Rattle.refusals.specs.declared.Answer.the-variants.{Done}
 use Rattle.frame_fields.specs.declared.Fields.{Fields}
-use Rattle.sns_decode.specs.Decode.{decodeAnswer, fieldFactors, DecodeSays, PulsesSays}
+use Rattle.sns_decode.specs.Decode.{decodeAnswer, DecodeSays, PulsesSays}
+use Rattle.decoder.specs.Decoded.{fieldFactors}
 use Rattle.refusals.specs.Claims.{Keeps}
 
 abbrev pub DecodePinned : Type 0

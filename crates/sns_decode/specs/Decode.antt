@@ -7,8 +7,7 @@ use lib.Dec.{eqb}
 use lib.IntN.{ℤ}
 use lib.ListN.{length}
 use lib.Ieee.{Float}
-use Rattle.decoder_pulses.specs.Pulses.{pulsesAt}
-use Rattle.synthesis.specs.Synthesis.{factorsOf}
+use Rattle.decoder.specs.Decoded.{fieldPulses, fieldFactors}
 use Rattle.refusals.specs.declared.Answer.{Answer}
 use Rattle.frame_fields.specs.declared.Fields.{Fields}
 use Rattle.refusals.specs.Answers.{Question, ask, answerOf, kept}
@@ -20,14 +19,6 @@ decodeQuestions f len = ask 9 0 (not (eqb len 16)) ∷ fieldQuestions f
 
 abbrev pub decodeAnswer : Fields → ℕ → Answer
 decodeAnswer f len = answerOf (decodeQuestions f len)
-
--- the sixteen pulses of the fields
-abbrev pub fieldPulses : Fields → List ℤ
-fieldPulses f = pulsesAt (f .shape) (f .«sign_a») (f .«index_a») (f .«sign_b») (f .«index_b»)
-
--- the sixteen factors of the fields
-abbrev pub fieldFactors : Fields → List Float
-fieldFactors f = factorsOf (f .«low_row») (f .«high_row») (f .shape) (f .gain) (fieldPulses f)
 
 -- the whole result of a call, r, and what the buffer holds at return, new, where it held old
 abbrev pub DecodeSays : Fields → List Float → Answer → List Float → Type 0

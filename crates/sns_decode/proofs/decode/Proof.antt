@@ -4,6 +4,7 @@ use mathlib.Core.Bool.{not}
 use borrow.Author.Needs.{needs}
 use borrow.Author.Tests.{eq-eqb, ne-eqb}
 use Rattle.sns_decode.specs.Decode.{decodeQuestions}
+use Rattle.field_refusal.proofs.Accepted.{accepted}
 use Rattle.refusals.proofs.Answers.{given, not-given}
 use Rattle.sns_decode.proofs.decode.Statement.{statement}
 use Rattle.sns_decode.proofs.decode.Tie as tie
@@ -21,8 +22,8 @@ enum-known-number c = search needs
 enum-told : tie.Need-enum-told
 enum-told c = search needs
 
-factors-of-requires : tie.Need-factors-of-requires
-factors-of-requires c κs = sym (c .before .before .field-refusal .ensures) ∙ c .enum-told .given .1
+factors-requires : tie.Need-factors-requires
+factors-requires c κs = accepted _ (sym (c .before .before .field-refusal .ensures) ∙ c .enum-told .given .1)
 
 fill-requires : tie.Need-fill-requires
 fill-requires c κs = search needs
@@ -43,10 +44,10 @@ returns-3 c =
     let t = f .before .before .before in
     let r = t .before .before in (
       not-given 9 0 _ _ (ap not (eq-eqb _ 16 (r .before .if1 .left))) (sym (t .enum-told .given .1) ∙ r .field-refusal .ensures),
-      f .fill .ensures ∙ f .before .before .factors-of .ensures,
+      f .fill .ensures ∙ f .before .before .factors .ensures,
     )
 
 pub decode-spec : {M : Type 1} → statement M
 decode-spec =
     tie.close
-    (tie.spec returns field-refusal-requires enum-known-number enum-told factors-of-requires fill-requires returns-2 same-length returns-3)
+    (tie.spec returns field-refusal-requires enum-known-number enum-told factors-requires fill-requires returns-2 same-length returns-3)

@@ -4,6 +4,7 @@ use mathlib.Core.Bool.{not}
 use borrow.Author.Needs.{needs}
 use borrow.Author.Tests.{eq-eqb, ne-eqb}
 use Rattle.sns_decode.specs.Decode.{decodeQuestions}
+use Rattle.field_refusal.proofs.Accepted.{accepted}
 use Rattle.refusals.proofs.Answers.{given, not-given}
 use Rattle.sns_decode.proofs.decode_pulses.Statement.{statement}
 use Rattle.sns_decode.proofs.decode_pulses.Tie as tie
@@ -21,8 +22,8 @@ enum-known-number c = search needs
 enum-told : tie.Need-enum-told
 enum-told c = search needs
 
-pulses-of-requires : tie.Need-pulses-of-requires
-pulses-of-requires c κs = sym (c .before .before .field-refusal .ensures) ∙ c .enum-told .given .1
+pulses-requires : tie.Need-pulses-requires
+pulses-requires c κs = accepted _ (sym (c .before .before .field-refusal .ensures) ∙ c .enum-told .given .1) .shape-below
 
 fill-pulses-requires : tie.Need-fill-pulses-requires
 fill-pulses-requires c κs = search needs
@@ -43,10 +44,10 @@ returns-3 c =
     let t = f .before .before .before in
     let r = t .before .before in (
       not-given 9 0 _ _ (ap not (eq-eqb _ 16 (r .before .if1 .left))) (sym (t .enum-told .given .1) ∙ r .field-refusal .ensures),
-      f .fill-pulses .ensures ∙ f .before .before .pulses-of .ensures,
+      f .fill-pulses .ensures ∙ f .before .before .pulses .ensures,
     )
 
 pub decode-pulses-spec : {M : Type 1} → statement M
 decode-pulses-spec =
     tie.close
-    (tie.spec returns field-refusal-requires enum-known-number enum-told pulses-of-requires fill-pulses-requires returns-2 same-length returns-3)
+    (tie.spec returns field-refusal-requires enum-known-number enum-told pulses-requires fill-pulses-requires returns-2 same-length returns-3)

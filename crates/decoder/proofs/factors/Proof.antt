@@ -1,13 +1,12 @@
--- Accepted fields are accepted by synthesis, and each table is what it is lent as.
+-- Accepted inputs are accepted by synthesis, and each table is what it is lent as.
 use mathlib.Core.Path.{_∙_}
 use borrow.Author.Needs.{needs}
 use Rattle.synthesis.proofs.Claims as synthesis
-use Rattle.field_refusal.proofs.Accepted.{accepted}
-use Rattle.sns_decode.proofs.factors_of.Statement.{statement}
-use Rattle.sns_decode.proofs.factors_of.Tie as tie
+use Rattle.decoder.proofs.factors.Statement.{statement}
+use Rattle.decoder.proofs.factors.Tie as tie
 
-pulses-of-requires : tie.Need-pulses-of-requires
-pulses-of-requires c κs = search needs
+pulses-requires : tie.Need-pulses-requires
+pulses-requires c κs = c .pre .shape-below
 
 lfcb-requires : tie.Need-lfcb-requires
 lfcb-requires c κs = search needs
@@ -39,15 +38,15 @@ factors-requires c κs =
     let d = r .before in
     let y = d .before .before .before in (
       (d .before .before .lfcb .ensures, d .before .hfcb .ensures, d .d-by-columns .ensures, r .roots .ensures),
-      rw (y .pulses-of .ensures) (synthesis.accepted _ _ _ _ _ _ _ _ (accepted _ (y .before .pre))),
+      rw (y .pulses .ensures) (synthesis.accepted _ _ _ _ _ _ _ _ (y .before .pre)),
     )
 
 returns : tie.Need-returns
 returns c =
     let y = c .before .before .before .before .before .before .before .before .before .before .before .before .before .before in
-    c .factors .ensures ∙ rw (y .pulses-of .ensures)
+    c .factors .ensures ∙ rw (y .pulses .ensures)
 
-pub factors-of-spec : {M : Type 1} → statement M
-factors-of-spec =
+pub factors-spec : {M : Type 1} → statement M
+factors-spec =
     tie.close
-    (tie.spec pulses-of-requires lfcb-requires hfcb-requires d-by-columns-requires roots-requires cast-factors cast-factors-2 cast-factors-3 cast-factors-4 factors-requires returns)
+    (tie.spec pulses-requires lfcb-requires hfcb-requires d-by-columns-requires roots-requires cast-factors cast-factors-2 cast-factors-3 cast-factors-4 factors-requires returns)
