@@ -1,9 +1,13 @@
--- The first strictly smallest of floats d 0, d 1, .., as a scan finds it. Definitions only.
-use mathlib.Core.Bool.{Bool, true, false, cond}
+-- One of 0, 1, .. as a scan upward finds it, and the first strictly smallest of floats d 0, d 1, .. Definitions only.
+use mathlib.Core.Bool.{Bool, cond}
 use Prim.Native.Nat.{ℕ, zero, suc}
 use lib.Ieee.{Float, lt}
 
--- of d 0 to d n: start with d 0, then scan upward; one that is not strictly smaller does not replace the best
+-- of 0 to n: start with 0, then scan upward; one takes the place of the best so far where the rule says so
+unfoldable pub scanTo : (ℕ → ℕ → Bool) → ℕ → ℕ
+scanTo replaces zero = 0
+scanTo replaces (suc n) = cond (replaces (suc n) (scanTo replaces n)) (suc n) (scanTo replaces n)
+
+-- of d 0 to d n: one that is not strictly smaller does not replace the best
 unfoldable pub leastTo : (ℕ → Float) → ℕ → ℕ
-leastTo d zero = 0
-leastTo d (suc n) = cond (lt (d (suc n)) (d (leastTo d n))) (suc n) (leastTo d n)
+leastTo d n = scanTo (λ n best. lt (d n) (d best)) n

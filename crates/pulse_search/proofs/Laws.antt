@@ -9,40 +9,29 @@ use native.Mathlib.Omega.{arith}
 use borrow.Author.Needs.{read-above}
 use lib.ListN.{length, getD, set, length-set}
 use lib.Ieee.{Float}
+use Rattle.float_laws.proofs.Scan.{scan-none, scan-move, scan-keep, scan-under}
 use Rattle.pulse_search.specs.declared.SearchRecord.{SearchRecord}
 use Rattle.pulse_search.specs.Pulse.{pairAt, replaces, bestTo, Search, start, onePulse, more, totalTo}
 use Rattle.pulse_search.proofs.Sums.{place-le, total-one}
 
 -- ---- the best place, one more place at a time
-pub best-zero : (a : List Float) (y : List ℕ) (r : SearchRecord) → 0 ≡ bestTo a y r 0
-unfolding bestTo
-best-zero a y r = refl
+module _ (a : List Float) (y : List ℕ) (r : SearchRecord) where
+  pub best-zero : 0 ≡ bestTo a y r 0
+  unfolding bestTo
+  best-zero = scan-none (λ n best. replaces (pairAt a y r n) (pairAt a y r best))
 
-best-suc : (a : List Float) (y : List ℕ) (r : SearchRecord) (n : ℕ) → cond (replaces (pairAt a y r (suc n)) (pairAt a y r (bestTo a y r n))) (suc n) (bestTo a y r n) ≡ bestTo a y r (suc n)
-unfolding bestTo
-best-suc a y r n = refl
+  module _ (n b : ℕ) (e : b ≡ bestTo a y r n) (p t : SearchRecord) (h : p ≡ pairAt a y r (n + 1)) (k : t ≡ pairAt a y r b) where
+    pub best-move : replaces p t ≡ true → n + 1 ≡ bestTo a y r (n + 1)
+    unfolding bestTo
+    best-move w = scan-move (λ n best. replaces (pairAt a y r n) (pairAt a y r best)) n b e (rw (h, k) at w)
 
-module _ (a : List Float) (y : List ℕ) (r : SearchRecord) (n b : ℕ) (e : b ≡ bestTo a y r n) (p t : SearchRecord) (h : p ≡ pairAt a y r (n + 1)) (k : t ≡ pairAt a y r b) where
-  pub best-move : replaces p t ≡ true → n + 1 ≡ bestTo a y r (n + 1)
-  best-move w = rw add-one (ap (λ (z : Bool). cond z (suc n) (bestTo a y r n)) (sym (same ∙ w)) ∙ best-suc a y r n)
-    where
-      same : replaces (pairAt a y r (suc n)) (pairAt a y r (bestTo a y r n)) ≡ replaces p t
-      same = rw (h, k, e, add-one)
+    pub best-keep : replaces p t ≡ false → b ≡ bestTo a y r (n + 1)
+    unfolding bestTo
+    best-keep w = scan-keep (λ n best. replaces (pairAt a y r n) (pairAt a y r best)) n b e (rw (h, k) at w)
 
-  pub best-keep : replaces p t ≡ false → b ≡ bestTo a y r (n + 1)
-  best-keep w = rw add-one (e ∙ ap (λ (z : Bool). cond z (suc n) (bestTo a y r n)) (sym (same ∙ w)) ∙ best-suc a y r n)
-    where
-      same : replaces (pairAt a y r (suc n)) (pairAt a y r (bestTo a y r n)) ≡ replaces p t
-      same = rw (h, k, e, add-one)
-
-choose-le : (z : Bool) (n b : ℕ) → b ≤ n → cond z (suc n) b ≤ suc n
-choose-le true n b h = le-refl (suc n)
-choose-le false n b h = le-trans h (le-suc n)
-
-pub best-le : (a : List Float) (y : List ℕ) (r : SearchRecord) (m : ℕ) → bestTo a y r m ≤ m
-unfolding bestTo
-best-le a y r zero = le-refl 0
-best-le a y r (suc m) = choose-le (replaces (pairAt a y r (suc m)) (pairAt a y r (bestTo a y r m))) m (bestTo a y r m) (best-le a y r m)
+  pub best-le : (m : ℕ) → bestTo a y r m ≤ m
+  unfolding bestTo
+  best-le m = scan-under (λ n best. replaces (pairAt a y r n) (pairAt a y r best)) m
 
 -- ---- k pulses
 pub more-suc : (a : List Float) (m k : ℕ) (s : Search) → more a m (suc k) s ≡ onePulse a m (more a m k s)

@@ -11,6 +11,7 @@ use lib.Dec.{T, leb}
 use lib.ListN.{getD}
 use lib.Ieee.{Float, nan, binary32, add, mul, lt}
 use Rattle.float_laws.proofs.Logic.{yes}
+use Rattle.float_laws.proofs.Scan.{scan-takes}
 use Rattle.float_laws.proofs.Order.{lt-asym, lt-irrefl}
 use Rattle.float_laws.specs.Literal.{one, two, squared}
 use Rattle.list_laws.proofs.ListOf.{getD-listOf}
@@ -31,33 +32,9 @@ module _ (a : List Float) (y : List ℕ) (r : SearchRecord) (last g : ℕ) (w : 
   unfolding replaces
   beaten-stays n h d = not-true _ (holds _ (lt-asym _ _ (yes (w n h d))))
 
-  stands : (m : ℕ) → m ≤ last → g ≤ m → bestTo a y r m ≡ g
-  unfolding bestTo
-  stands zero h l = zero-of g l
-    where
-      zero-of : (g : ℕ) → g ≤ 0 → 0 ≡ g
-      zero-of g l = omega arith
-  stands (suc m) h l =
-      elim (eq-or-lt-of-le l) [
-        | inl e ↦
-            ap (λ (b : Bool). cond b (suc m) (bestTo a y r m))
-            (subst (λ (k : ℕ). replaces (pairAt a y r k) (pairAt a y r (bestTo a y r m)) ≡ true) e
-            (w (bestTo a y r m) (le-trans (best-le a y r m) (le-trans (le-suc m) h)) (below (bestTo a y r m) (best-le a y r m) e)))
-            ∙ sym e
-        | inr i ↦
-            let b : bestTo a y r m ≡ g = stands m (le-trans (le-suc m) h) (le-of-suc-le-suc i) in
-            ap (λ (k : ℕ). cond (replaces (pairAt a y r (suc m)) (pairAt a y r k)) (suc m) k) b
-            ∙ ap (λ (z : Bool). cond z (suc m) g) (beaten-stays (suc m) h (above i))
-      ]
-    where
-      below : (b : ℕ) → b ≤ m → g ≡ suc m → b ≡ g → ⊥
-      below b h e f = omega arith
-
-      above : g < suc m → suc m ≡ g → ⊥
-      above i e = omega arith
-
   pub takes : g ≤ last → g ≡ bestTo a y r last
-  takes h = sym (stands last (le-refl last) h)
+  unfolding bestTo
+  takes h = scan-takes (λ n best. replaces (pairAt a y r n) (pairAt a y r best)) last g w beaten-stays h
 
 -- ---- what the lanes hold
 module _ (a : List Float) (y : List ℕ) (r : SearchRecord) (last : ℕ) (l : last < 16) where

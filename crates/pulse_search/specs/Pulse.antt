@@ -1,10 +1,11 @@
 -- One pulse, and single pulses one after another. Definitions only.
-use mathlib.Core.Bool.{Bool, cond}
+use mathlib.Core.Bool.{Bool}
 use mathlib.Core.List.{List}
 use Prim.Native.Nat.{ℕ, zero, suc, _+_, _-_, _*_}
 use lib.ListN.{getD, set}
 use lib.Ieee.{Float, nan, binary32, add, mul, lt}
 use Rattle.float_laws.specs.Literal.{one, two, squared}
+use Rattle.float_laws.specs.Scan.{scanTo}
 use Rattle.pulse_guess.specs.Lanes.{amount}
 use Rattle.pulse_search.specs.declared.SearchRecord.{SearchRecord}
 
@@ -21,10 +22,7 @@ replaces p best = lt (mul binary32 (squared (best .correlation)) (p .energy)) (m
 
 -- One pulse: start with place 0, then scan upward, to place n. Ties keep the earlier place.
 unfoldable pub bestTo : List Float → List ℕ → SearchRecord → ℕ → ℕ
-bestTo a y r zero = 0
-bestTo a y r (suc n) =
-    let best = bestTo a y r n in
-    cond (replaces (pairAt a y r (suc n)) (pairAt a y r best)) (suc n) best
+bestTo a y r n = scanTo (λ n best. replaces (pairAt a y r n) (pairAt a y r best)) n
 
 -- the pulses of a search, and the pair that the running search record holds
 pub record Search : Type 0 where

@@ -9,6 +9,7 @@ use borrow.Author.Tests.{lt-ltb, le-ltb}
 use lib.Dec.{T, ltb, nltb→le, lit<, lit≤}
 use lib.ListN.{length, getD, length-set}
 use lib.Ieee.{Float, nan, lt}
+use Rattle.float_laws.proofs.Scan.{scan-under}
 use Rattle.list_laws.specs.ListOf.{listOf}
 use Rattle.list_laws.proofs.ListOf.{length-listOf, getD-listOf}
 use Rattle.pulse_search.specs.Pulse.{Search, start, sumOver, totalTo, squareTo, missing, upTo}
@@ -124,14 +125,15 @@ pub one-total : (a : List Float) → totalTo (shape1 a .pulses) 16 ≡ 10
 one-total a = sum-flat (λ w. w) refl (shape1 a .pulses) 10 6 (one-zero a) ∙ one-low a
 
 -- ---- shape 0: shape 1's ten and one pulse at a place from 10 to 15
-choose-range : (b : Bool) (n p : ℕ) → 10 ≤ p → p ≤ 10 + n → (10 ≤ cond b (10 + suc n) p) × (cond b (10 + suc n) p ≤ 10 + suc n)
-choose-range true n p h k = (omega arith, omega arith)
-choose-range false n p h k = (h, omega arith)
-
 pub largest-range : (a : List Float) (n : ℕ) → (10 ≤ largestTo a n) × (largestTo a n ≤ 10 + n)
 unfolding largestTo
-largest-range a zero = (le-refl 10, le-refl 10)
-largest-range a (suc n) = choose-range (lt (getD a (largestTo a n) nan) (getD a (10 + suc n) nan)) n (largestTo a n) (largest-range a n .0) (largest-range a n .1)
+largest-range a n = (from _, to _ (scan-under (λ n best. lt (getD a (10 + best) nan) (getD a (10 + n) nan)) n))
+  where
+    from : (k : ℕ) → 10 ≤ 10 + k
+    from k = omega arith
+
+    to : (k : ℕ) → k ≤ n → 10 + k ≤ 10 + n
+    to k h = omega arith
 
 pub largest-under : (a : List Float) → largestTo a 5 < 16
 largest-under a = omega (arith, largest-range a 5 .1)

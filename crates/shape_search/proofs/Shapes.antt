@@ -1,5 +1,5 @@
 -- One step more of each loop over the shapes' places. Assumes nothing.
-use mathlib.Core.Path.{_≡_, sym, ap, _∙_}
+use mathlib.Core.Path.{_≡_, refl, sym, ap, _∙_}
 use mathlib.Core.Bool.{Bool, true, false, cond}
 use mathlib.Core.List.{List, [], _∷_}
 use Prim.Native.Nat.{ℕ, suc, _+_, _-_, _≤_, _<_}
@@ -7,6 +7,8 @@ use native.Mathlib.Omega.{arith}
 use native.Mathlib.Numerals.{add-one}
 use lib.ListN.{length, getD, set}
 use lib.Ieee.{Float, nan, lt}
+use Rattle.float_laws.specs.Scan.{scanTo}
+use Rattle.float_laws.proofs.Scan.{scan-move, scan-keep}
 use Rattle.list_laws.specs.ListOf.{listOf}
 use Rattle.pulse_search.specs.declared.SearchRecord.{SearchRecord}
 use Rattle.pulse_search.specs.Pulse.{Search, start, more, totalTo, upTo}
@@ -16,19 +18,17 @@ use Rattle.shape_search.specs.Shape.{shape3, shape2, lowOf, droppedTo, l
 use Rattle.shape_search.proofs.Facts.{three-total}
 
 -- ---- the largest place from 10 on
-pub largest-move : (a : List Float) (n b : ℕ) → b ≡ largestTo a n → lt (getD a b nan) (getD a (10 + (n + 1)) nan) ≡ true → 10 + (n + 1) ≡ largestTo a (n + 1)
-unfolding largestTo
-largest-move a n b e w = rw (add-one n) (go (rw add-one at w))
-  where
-    go : lt (getD a b nan) (getD a (10 + suc n) nan) ≡ true → 10 + suc n ≡ largestTo a (suc n)
-    go v = sym (ap (λ (z : Bool). cond z (10 + suc n) (largestTo a n)) (rw e at v))
+module _ (a : List Float) (n b : ℕ) (e : b ≡ largestTo a n) where
+  best : ℕ
+  best = scanTo (λ n best. lt (getD a (10 + best) nan) (getD a (10 + n) nan)) n
 
-pub largest-keep : (a : List Float) (n b : ℕ) → b ≡ largestTo a n → lt (getD a b nan) (getD a (10 + (n + 1)) nan) ≡ false → b ≡ largestTo a (n + 1)
-unfolding largestTo
-largest-keep a n b e w = rw (add-one n) (go (rw add-one at w))
-  where
-    go : lt (getD a b nan) (getD a (10 + suc n) nan) ≡ false → b ≡ largestTo a (suc n)
-    go v = e ∙ sym (ap (λ (z : Bool). cond z (10 + suc n) (largestTo a n)) (rw e at v))
+  pub largest-move : lt (getD a b nan) (getD a (10 + (n + 1)) nan) ≡ true → 10 + (n + 1) ≡ largestTo a (n + 1)
+  unfolding largestTo best
+  largest-move w = ap (λ (k : ℕ). 10 + k) (scan-move (λ n best. lt (getD a (10 + best) nan) (getD a (10 + n) nan)) n best refl (rw e at w))
+
+  pub largest-keep : lt (getD a b nan) (getD a (10 + (n + 1)) nan) ≡ false → b ≡ largestTo a (n + 1)
+  unfolding largestTo best
+  largest-keep w = e ∙ ap (λ (k : ℕ). 10 + k) (scan-keep (λ n best. lt (getD a (10 + best) nan) (getD a (10 + n) nan)) n best refl (rw e at w))
 
 -- ---- from shape to shape, as the code goes on: its pulses and its pair are those of the search s
 pub record Reached (s : Search) (y : List ℕ) (r : SearchRecord) : Type 0 where

@@ -5,6 +5,7 @@ use Prim.Native.Nat.{ℕ, zero, suc, _+_}
 use lib.Dec.{ltb}
 use lib.ListN.{getD, set}
 use lib.Ieee.{Float, nan, binary32, sub, lt}
+use Rattle.float_laws.specs.Scan.{scanTo}
 use Rattle.list_laws.specs.ListOf.{listOf}
 use Rattle.pulse_search.specs.declared.SearchRecord.{SearchRecord}
 use Rattle.pulse_search.specs.Pulse.{Search, start, upTo}
@@ -40,10 +41,7 @@ shape1 a = upTo a 9 10 (lowered a (shape2 a))
 
 -- the first strictly largest a of places 10 to 10 + n: place 10 where all are zero
 unfoldable pub largestTo : List Float → ℕ → ℕ
-largestTo a zero = 10
-largestTo a (suc n) =
-    let best = largestTo a n in
-    cond (lt (getD a best nan) (getD a (10 + suc n) nan)) (10 + suc n) best
+largestTo a n = 10 + scanTo (λ n best. lt (getD a (10 + best) nan) (getD a (10 + n) nan)) n
 
 -- Shape 0: shape 1's ten places, and one pulse at the first strictly largest a of places 10 to 15.
 unfoldable pub shape0 : List Float → List ℕ

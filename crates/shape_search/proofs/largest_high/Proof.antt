@@ -3,6 +3,7 @@ use mathlib.Core.Path.{_≡_, refl}
 use Prim.Native.Nat.{_≤_, _-_}
 use native.Mathlib.Omega.{arith}
 use borrow.Author.Needs.{needs}
+use Rattle.float_laws.specs.Scan.{scanTo}
 use Rattle.shape_search.specs.Shape.{largestTo}
 use Rattle.shape_search.proofs.Shapes.{largest-move, largest-keep}
 use Rattle.shape_search.proofs.largest_high.Statement.{statement}
@@ -15,7 +16,7 @@ abbrev μ-loop : tie.MeasureT-loop
 μ-loop abs-x n-best₀ n₀ n-best n = 5 - n
 
 loop-holds : tie.Need-loop-holds Inv-loop μ-loop
-unfolding largestTo
+unfolding largestTo scanTo
 loop-holds c = (search needs, refl, search needs)
 
 add-n : tie.Need-add-n Inv-loop μ-loop
