@@ -1,15 +1,14 @@
 -- No distortion is NaN: a finite target less a gain times a place of at most 1, squared, and sums of values without a minus sign. So the scan finds the first least.
 -- Assumes nothing.
-use mathlib.Core.Path.{_≡_, refl, sym, subst}
-use mathlib.Core.Bool.{Bool, true, false}
+use mathlib.Core.Path.{_≡_, sym, subst}
 use mathlib.Core.List.{List, []}
-use Prim.Native.Nat.{ℕ, zero, suc, _-_, _*_, _≤_, _<_}
+use Prim.Native.Nat.{ℕ, suc, _-_, _<_}
 use native.Mathlib.Nat.{le-refl, le-trans, le-of-eq}
 use native.Mathlib.Omega.{arith}
 use lib.Dec.{T, lit<, lit≤}
-use lib.IntN.{natAbs}
+use lib.IntN.{pos}
 use lib.ListN.{getD}
-use lib.Ieee.{Float, nan, binary32, ofInt, sub, mul, div, lt}
+use lib.Ieee.{Float, nan, binary32, ofInt, sub, mul, div}
 use Rattle.float_laws.specs.Bounded.{Bounded}
 use Rattle.float_laws.specs.Kind.{finite, plain}
 use Rattle.float_laws.specs.Least.{FirstLeast}
@@ -20,31 +19,22 @@ use Rattle.float_laws.proofs.NoNan.{square-plain, sub-no-nan, finite-no-nan, pl
 use Rattle.float_laws.proofs.Running.{sum-plain}
 use Rattle.float_laws.proofs.Scan.{least-first}
 use Rattle.float_laws.proofs.Size.{within-finite, within-up, mul-within, whole-exact}
-use Rattle.float_laws.specs.Literal.{nought, squared}
+use Rattle.float_laws.specs.Literal.{squared}
 use Rattle.list_laws.proofs.ListOf.{getD-listOf}
 use Rattle.roots.proofs.Unit.{unit}
 use Rattle.sns_tables.proofs.Sizes.{gain-within}
-use Rattle.pulse_search.specs.Pulse.{squareTo}
-use Rattle.pulse_search.proofs.Sums.{sum-place}
-use Rattle.candidates.specs.Candidate.{signedOf, signedAt, lengthOf, candidateOf, distortionOf}
+use Rattle.pulse_length.specs.Length.{squaredLength, lengthOf}
+use Rattle.pulse_length.proofs.Squares.{square-under}
+use Rattle.candidates.specs.Candidate.{candidateOf, distortionOf}
 use Rattle.candidates.specs.Scan.{choices, choiceAt, gainOf, distortionAt, winnerOf}
 use Rattle.candidates.specs.Claims.{Units, NoNan, WinnerFirst, WinnerOnly}
 use Rattle.candidates.proofs.Choices.{choices-are, choice-shape, choice-gain}
 
--- ---- a sign changes no size
-pub signed-size : (b : Bool) (d : ℕ) → natAbs (signedOf b d) ≡ d
-unfolding signedOf
-signed-size false d = refl
-signed-size true zero = refl
-signed-size true (suc d) = refl
-
 pub units : Units
-unfolding candidateOf signedAt
-units t y s n h =
-    let z = signedOf (lt (getD t n nan) nought) (getD y n 0) in
-    subst (λ (x : Float). Within x 1 1) (sym (getD-listOf 16 (λ n. div binary32 (ofInt binary32 (signedAt t y n)) (lengthOf y)) nan n h))
-    (unit (squareTo y 16) z (s .some) (s .few)
-    (subst (λ (d : ℕ). d * d ≤ squareTo y 16) (sym (signed-size (lt (getD t n nan) nought) (getD y n 0))) (sum-place (λ w. w * w) y n 16 h)))
+unfolding candidateOf
+units y s n h =
+    subst (λ (x : Float). Within x 1 1) (sym (getD-listOf 16 (λ n. div binary32 (ofInt binary32 (getD y n (pos 0))) (lengthOf y)) nan n h))
+    (unit (squaredLength y) (getD y n (pos 0)) (s .above) (s .below) (square-under y n))
 
 -- ---- distortions
 gain-six : (i : ℕ) → i < choices → Within (gainOf i) 6 1

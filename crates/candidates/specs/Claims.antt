@@ -4,13 +4,14 @@ use mathlib.Core.Bool.{not}
 use mathlib.Core.List.{List, []}
 use Prim.Native.Nat.{ℕ, _<_}
 use lib.Dec.{T}
+use lib.IntN.{ℤ}
 use lib.ListN.{getD}
 use lib.Ieee.{Float, nan, isNan}
 use Rattle.float_laws.specs.Bounded.{Bounded}
 use Rattle.float_laws.specs.Kind.{finite}
 use Rattle.float_laws.specs.Least.{FirstLeast}
 use Rattle.sns_tables.specs.Gains.{gainsOf}
-use Rattle.shape_search.specs.Claims.{Sound}
+use Rattle.pulse_length.specs.Length.{Sixteen}
 use Rattle.candidates.specs.declared.Choice.{Choice}
 use Rattle.candidates.specs.Candidate.{candidateOf}
 use Rattle.candidates.specs.Scan.{choices, choiceAt, distortionAt, winnerOf}
@@ -29,9 +30,9 @@ pub record Tried (shape gain : ℕ) : Type 0 where
 abbrev pub AllTried : Type 0
 AllTried = (shape gain : ℕ) → shape < 4 → gain < gainsOf shape → Tried shape gain
 
--- no place of a candidate is over 1 in size, for any target
+-- no place of a candidate is over 1 in size
 abbrev pub Units : Type 0
-Units = (t : List Float) (y : List ℕ) → Sound y → Bounded 16 1 (candidateOf t y)
+Units = (y : List ℤ) → Sixteen y → Bounded 16 1 (candidateOf y)
 
 -- sixteen finite places, and four candidates
 pub record Comparable (t : List Float) (q : List (List Float)) : Type 0 where

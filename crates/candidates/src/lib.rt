@@ -3,27 +3,25 @@
 // definition.
 ghost use mathlib.Core.Path.{_≡_};
 ghost use mathlib.Core.List.{[]};
-ghost use Prim.Native.Nat.{_*_, _-_, _<_, _≤_};
+ghost use Prim.Native.Nat.{_-_, _<_};
 ghost use lib.ListN.{getD};
-ghost use lib.Ieee.{nan, binary32, ofInt, div, lt};
+ghost use lib.Ieee.{nan};
 ghost use Rattle.float_laws.specs.Scan.{leastTo};
-ghost use Rattle.float_laws.specs.Literal.{nought};
 ghost use Rattle.list_laws.specs.ListOf.{listOf};
 ghost use Rattle.roots.specs.Root.{rootTable};
-ghost use Rattle.pulse_search.specs.Pulse.{squareTo};
-ghost use Rattle.candidates.specs.Candidate.{signedOf, candidateOf, distortionOf};
+ghost use Rattle.pulse_length.specs.Length.{Sixteen};
+ghost use Rattle.candidates.specs.Candidate.{candidateOf, distortionOf};
 ghost use Rattle.candidates.specs.Scan.{choices, choiceAt, gainOf, distortionAt, winnerOf};
+use shapes::OutlierFar;
+use shapes::OutlierNear;
+use shapes::RegularA;
+use shapes::RegularLf;
 
-// How many gains of each shape are scanned, and how many choices that makes.
-const REG_GAINS: usize = 2;
-
-const REG_LF_GAINS: usize = 4;
-
-const NEAR_GAINS: usize = 4;
-
-const FAR_GAINS: usize = 8;
-
-pub const CHOICES: usize = REG_GAINS + REG_LF_GAINS + NEAR_GAINS + FAR_GAINS;
+// How many choices are scanned: every gain of each shape.
+pub const CHOICES: usize = RegularA::GAINS
+    + RegularLf::GAINS
+    + OutlierNear::GAINS
+    + OutlierFar::GAINS;
 
 // A shape and the number of one of its gains.
 pub struct Choice {
@@ -31,58 +29,17 @@ pub struct Choice {
     pub gain: usize,
 }
 
-fn square(x: u8) -> usize
-    ensures is { λ r. ⌜ r ≡ x * x ⌝ }
-    ensures small { λ r. ⌜ r ≤ 65025 ⌝ }
-{
-    let w = x as usize;
-    w * w
-}
-
-// The squared length of a shape's pulses.
-fn squared_length(y: &[[u8; 16]; 4], shape: usize) -> usize
-    requires { ⌜ shape < 4 ⌝ }
-    ensures { λ r. ⌜ r ≡ squareTo (getD (now (y .entry)) shape []) 16 ⌝ }
-{
-    let mut s = 0usize;
-    let mut n = 0usize;
-    while n < 16 {
-        s = s + square(y[shape][n]);
-        n += 1;
-    }
-    s
-}
-
-// A place's pulses with the target's sign, divided by the length. No pulses have no sign.
-fn unit(t: f32, pulses: u8, length: f32) -> f32
-    ensures { λ q. ⌜ q ≡ div binary32 (ofInt binary32 (signedOf (lt t nought) pulses)) length ⌝ }
-{
-    let m = pulses as f32;
-    if t < 0.0 {
-        if pulses != 0 {
-            return -m / length;
-        }
-        return m / length;
-    }
-    m / length
-}
-
 // A shape's pulses, with signs, divided by their length.
-pub fn normalize_candidate(
-    roots: &[f32; 101],
-    t: &[f32; 16],
-    y: &[[u8; 16]; 4],
-    shape: usize,
-) -> [f32; 16]
-    requires { ⌜ (now roots ≡ rootTable) × (shape < 4) ⌝ }
-    requires { ⌜ (1 ≤ squareTo (getD (now y) shape []) 16) × (squareTo (getD (now y) shape []) 16 ≤ 101) ⌝ }
-    ensures { λ q. ⌜ q ≡ candidateOf (now (t .entry)) (getD (now (y .entry)) shape []) ⌝ }
+pub fn normalize_candidate(roots: &[f32; 101], y: &[i32; 16]) -> [f32; 16]
+    requires { ⌜ (now roots ≡ rootTable) × Sixteen (now y) ⌝ }
+    ensures { λ q. ⌜ q ≡ candidateOf (now (y .entry)) ⌝ }
 {
-    let length = roots::root(roots, squared_length(y, shape));
+    let length = pulse_length::length(roots, y);
+    let x = pulse_length::floats(y);
     let mut xq = [0.0f32; 16];
     let mut n = 0usize;
     while n < 16 {
-        xq[n] = unit(t[n], y[shape][n], length);
+        xq[n] = x[n] / length;
         n += 1;
     }
     xq
@@ -93,18 +50,18 @@ pub fn choice_at(k: usize) -> Choice
     requires { ⌜ k < choices ⌝ }
     ensures { λ c. ⌜ c ≡ choiceAt k ⌝ }
 {
-    if k < REG_GAINS {
+    if k < RegularA::GAINS {
         return Choice { shape: 0, gain: k };
     }
-    let k = k - REG_GAINS;
-    if k < REG_LF_GAINS {
+    let k = k - RegularA::GAINS;
+    if k < RegularLf::GAINS {
         return Choice { shape: 1, gain: k };
     }
-    let k = k - REG_LF_GAINS;
-    if k < NEAR_GAINS {
+    let k = k - RegularLf::GAINS;
+    if k < OutlierNear::GAINS {
         return Choice { shape: 2, gain: k };
     }
-    let k = k - NEAR_GAINS;
+    let k = k - OutlierNear::GAINS;
     Choice { shape: 3, gain: k }
 }
 

@@ -3,17 +3,13 @@ use mathlib.Core.List.{List}
 use lib.IntN.{ℤ}
 use lib.Ieee.{Float}
 use Rattle.frame_fields.specs.declared.Fields.{Fields}
-use Rattle.decoder_pulses.specs.Pulses.{pulsesAt}
+use Rattle.frame_fields.specs.Accepted.{numbersIn}
+use Rattle.shape_numbers.specs.Pulses.{pulsesAt}
 use Rattle.synthesis.specs.Synthesis.{factorsOf}
-use Rattle.synthesis.specs.Claims.{Input}
-
--- the fields are accepted decoder inputs
-abbrev pub AcceptedFields : Fields → Type 0
-AcceptedFields f = Input (f .«low_row») (f .«high_row») (f .shape) (f .gain) (f .«sign_a») (f .«index_a») (f .«sign_b») (f .«index_b»)
 
 -- the sixteen pulses of the fields
 abbrev pub fieldPulses : Fields → List ℤ
-fieldPulses f = pulsesAt (f .shape) (f .«sign_a») (f .«index_a») (f .«sign_b») (f .«index_b»)
+fieldPulses f = pulsesAt (f .shape) (numbersIn f)
 
 -- the sixteen factors of the fields
 abbrev pub fieldFactors : Fields → List Float

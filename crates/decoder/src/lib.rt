@@ -1,22 +1,36 @@
 // The decoder whole, the twin of `encoder`: the fields of an accepted frame to their sixteen pulses, and to sixteen factors.
 // Public for the crates above only: a caller shows that the frame is accepted. Every result is pinned.
 use frame_fields::Fields;
+use frame_fields::Numbers;
 use sns_tables::spec_noise_shape_quant_tables as tables;
 ghost use mathlib.Core.Path.{_≡_};
 ghost use Prim.Native.Nat.{_<_};
-ghost use Rattle.decoder.specs.Decoded.{AcceptedFields, fieldPulses, fieldFactors};
+ghost use Rattle.frame_fields.specs.Accepted.{Accepted, numbersIn};
+ghost use Rattle.decoder.specs.Decoded.{fieldPulses, fieldFactors};
+
+// The numbers among the fields.
+fn numbers(f: Fields) -> Numbers
+    ensures { λ r. ⌜ r ≡ numbersIn f ⌝ }
+{
+    Numbers {
+        sign_a: f.sign_a,
+        sign_b: f.sign_b,
+        index_a: f.index_a,
+        index_b: f.index_b,
+    }
+}
 
 // The sixteen pulses.
 pub fn pulses(f: Fields) -> [i32; 16]
     requires { ⌜ f .shape < 4 ⌝ }
     ensures { λ r. ⌜ r ≡ fieldPulses f ⌝ }
 {
-    decoder_pulses::pulses(f.shape as usize, f.sign_a, f.index_a, f.sign_b, f.index_b)
+    shape_numbers::pulses(f.shape as usize, numbers(f))
 }
 
 // The sixteen factors.
 pub fn factors(f: Fields) -> [f32; 16]
-    requires { ⌜ AcceptedFields f ⌝ }
+    requires { ⌜ Accepted f ⌝ }
     ensures { λ r. ⌜ r ≡ fieldFactors f ⌝ }
 {
     let y = pulses(f);

@@ -1,16 +1,12 @@
 -- The decoder's fields, and when they are refused. Definitions only.
-use mathlib.Core.Bool.{Bool, _&&_}
+use mathlib.Core.Bool.{_&&_}
 use mathlib.Core.List.{List, [], _∷_}
-use Prim.Native.Nat.{ℕ}
-use lib.Dec.{leb, ltb, eqb}
+use lib.Dec.{leb, ltb}
 use Rattle.sns_tables.specs.Gains.{gainsOf}
 use Rattle.shapes.specs.Sets.{setA, setB}
 use Rattle.frame_fields.specs.declared.Fields.{Fields}
+use Rattle.frame_fields.specs.Accepted.{usesB}
 use Rattle.refusals.specs.Answers.{Question, ask}
-
--- Shapes 1 to 3 don't look at B's sign and index: set B is in use in shape 0.
-abbrev pub usesB : ℕ → Bool
-usesB shape = eqb shape 0
 
 -- 1: a codebook row is over 31 (low, high). 2: the shape is over 3. 3: the gain is over 1, 3, 3, 7 for shapes 0 to 3.
 -- 4: a lead sign in use is neither 0 nor 1 (A, B). 5: an index in use is at or above its size (A, B).

@@ -7,7 +7,8 @@ ghost use mathlib.Core.Path.{_≡_};
 ghost use mathlib.Core.Bool.{_&&_};
 ghost use lib.Dec.{leb};
 ghost use Rattle.refusals.specs.Answers.{answerOf};
-ghost use Rattle.field_refusal.specs.Fields.{usesB, fieldQuestions};
+ghost use Rattle.frame_fields.specs.Accepted.{usesB};
+ghost use Rattle.field_refusal.specs.Fields.{fieldQuestions};
 
 // Set B is in use, and the value is at or above the end.
 fn over_in_b(shape: u32, value: u32, end: u32) -> bool

@@ -80,9 +80,9 @@ pub fn mvpq_enum(v: &[i32]) -> Numbered
     }
 }
 
-// k pulses with a sign.
-fn mind2vec_one(k: usize, sign: u32) -> i32
-    requires { ⌜ k < 11 ⌝ }
+// k pulses with a sign: a byte's worth at the most.
+pub fn mind2vec_one(k: usize, sign: u32) -> i32
+    requires { ⌜ k < 256 ⌝ }
     ensures { λ r. ⌜ r ≡ signed sign k ⌝ }
 {
     let x = k as i32;

@@ -13,7 +13,7 @@ use Rattle.float_laws.proofs.Scan.{scan-under}
 use Rattle.list_laws.specs.ListOf.{listOf}
 use Rattle.list_laws.proofs.ListOf.{length-listOf, getD-listOf}
 use Rattle.pulse_search.specs.Pulse.{Search, start, sumOver, totalTo, squareTo, missing, upTo}
-use Rattle.pulse_search.proofs.Sums.{sum-same, sum-past, sum-set, sum-grow, sum-flat, square-low, square-high}
+use Rattle.pulse_search.proofs.Sums.{sum-same, sum-past, sum-set, sum-grow, sum-flat}
 use Rattle.pulse_search.proofs.Laws.{more-length, more-total, more-past}
 use Rattle.projection.specs.Projection.{projectedOf, none, joinedTo, someNotFinite, someSeven, totalOverSix, zeros, unless, projection}
 use Rattle.shape_search.specs.Shape.{shape3, shape2, lowOf, lowered, shape1, largestTo, shape0}
@@ -156,19 +156,3 @@ zero-sum f z o a =
 
 pub zero-total : (a : List Float) → totalTo (shape0 a) 16 ≡ 11
 zero-total a = zero-sum (λ w. w) refl refl a ∙ ap (λ (n : ℕ). n + 1) (one-total a)
-
--- ---- every squared length is from 1 to 101: at least the total, and at most its square
-squared : (y : List ℕ) (t : ℕ) → totalTo y 16 ≡ t → 1 ≤ t → (1 ≤ squareTo y 16) × (squareTo y 16 ≤ t * t)
-squared y t e h = (le-trans h (le-trans (le-of-eq (sym e)) (square-low y 16)), le-trans (square-high y 16) (le-of-eq (ap (λ (z : ℕ). z * z) e)))
-
-pub three-square : (a : List Float) → (1 ≤ squareTo (shape3 a .pulses) 16) × (squareTo (shape3 a .pulses) 16 ≤ 36)
-three-square a = squared (shape3 a .pulses) 6 (three-total a) (lit≤ tt)
-
-pub two-square : (a : List Float) → (1 ≤ squareTo (shape2 a .pulses) 16) × (squareTo (shape2 a .pulses) 16 ≤ 64)
-two-square a = squared (shape2 a .pulses) 8 (two-total a) (lit≤ tt)
-
-pub one-square : (a : List Float) → (1 ≤ squareTo (shape1 a .pulses) 16) × (squareTo (shape1 a .pulses) 16 ≤ 100)
-one-square a = squared (shape1 a .pulses) 10 (one-total a) (lit≤ tt)
-
-pub zero-square : (a : List Float) → (1 ≤ squareTo (shape0 a) 16) × (squareTo (shape0 a) 16 ≤ 101)
-zero-square a = (omega (arith, zero-sum (λ w. w * w) refl refl a), omega (arith, zero-sum (λ w. w * w) refl refl a, one-square a .1))

@@ -23,15 +23,6 @@ Totals = (a : List Float) → listOf 4 (λ s. totalTo (shapePulses a s) 16) ≡ 
 abbrev pub LowTotals : Type 0
 LowTotals = (a : List Float) (s : ℕ) → s < 2 → totalTo (shapePulses a s) 10 ≡ 10
 
--- each shape has sixteen places, and a squared length from 1 to 101
-pub record Sound (y : List ℕ) : Type 0 where
-  pub places : length y ≡ 16
-  pub some : 1 ≤ squareTo y 16
-  pub few : squareTo y 16 ≤ 101
-
-abbrev pub ShapesSound : Type 0
-ShapesSound = (a : List Float) (s : ℕ) → Sound (shapePulses a s)
-
 -- what is said of k single pulses over places 0 to last from s, of each of the three searches
 pub record Each (P : ℕ → ℕ → Search → Type 0) (a : List Float) : Type 0 where
   pub three : P 15 (missing 15 6 (projection a)) (projection a)

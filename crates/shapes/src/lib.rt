@@ -1,6 +1,6 @@
-// The shapes: each set of pulse vectors states its dimension, pulse count and size as constants of a type of its own,
-// and PulseSet's constructors read them from there; and the gains of a shape, how many and each. Public for the crates
-// above only; every result is pinned.
+// The shapes: each set of pulse vectors states its dimension, pulse count and size as constants of a type of its own, and
+// the set of a shape how many gains the shape has; PulseSet's constructors and every other reader take them from there.
+// Public for the crates above only; every result is pinned.
 ghost use mathlib.Core.Path.{_≡_};
 ghost use Prim.Native.Nat.{_<_};
 ghost use Rattle.sns_tables.specs.Gains.{gainsOf, gainAt};
@@ -16,6 +16,8 @@ impl RegularA {
     pub const PULSES: usize = 10;
 
     pub const SIZE: u32 = 2390004;
+
+    pub const GAINS: usize = 2;
 }
 
 // Shape 0, set B: one pulse on places 10 to 15.
@@ -38,6 +40,8 @@ impl RegularLf {
     pub const PULSES: usize = 10;
 
     pub const SIZE: u32 = 2390004;
+
+    pub const GAINS: usize = 4;
 }
 
 // Shape 2: eight pulses on sixteen places.
@@ -49,6 +53,8 @@ impl OutlierNear {
     pub const PULSES: usize = 8;
 
     pub const SIZE: u32 = 15158272;
+
+    pub const GAINS: usize = 4;
 }
 
 // Shape 3: six pulses on sixteen places.
@@ -60,6 +66,8 @@ impl OutlierFar {
     pub const PULSES: usize = 6;
 
     pub const SIZE: u32 = 774912;
+
+    pub const GAINS: usize = 8;
 }
 
 // A set of pulse vectors: so many places, so many pulses, and so many vectors of either lead sign.
@@ -151,10 +159,10 @@ pub fn gain_count(shape: u32) -> u32
     ensures { λ r. ⌜ r ≡ gainsOf shape ⌝ }
 {
     match shape {
-        0 => 2,
-        1 => 4,
-        2 => 4,
-        _ => 8,
+        0 => RegularA::GAINS as u32,
+        1 => RegularLf::GAINS as u32,
+        2 => OutlierNear::GAINS as u32,
+        _ => OutlierFar::GAINS as u32,
     }
 }
 

@@ -3,7 +3,7 @@ use Rattle.numbering.proofs.Claims.{claim}
 use Rattle.pulse_search.proofs.Held.{record-ordered}
 use Rattle.shape_search.proofs.Held.{searches-held, shapes-held, one-search}
 use Rattle.candidates.proofs.Choices.{choices-are, all-tried}
-use Rattle.synthesis.proofs.Claims.{within-64}
+use Rattle.decoder.proofs.Claims.{within-64}
 use Rattle.refusals.proofs.Answers as refusals
 use Rattle.sns_check.proofs.Claims as check
 use Rattle.sns_encode.proofs.Claims as encode

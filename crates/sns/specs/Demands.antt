@@ -4,7 +4,7 @@ use Rattle.numbering.specs.Claims as numbering
 use Rattle.pulse_search.specs.Claims as pulses
 use Rattle.shape_search.specs.Claims as shapes
 use Rattle.candidates.specs.Claims as candidates
-use Rattle.synthesis.specs.Claims as synthesis
+use Rattle.decoder.specs.Claims as decoder
 use Rattle.refusals.specs.Claims as refusals
 use Rattle.sns_check.specs.Claims as check
 use Rattle.sns_encode.specs.Claims as encode
@@ -51,7 +51,7 @@ pub record Numbered : Type 0 where
   pub any-pair : numbering.Claim
   pub unpack-then-pack : number.UnpackThenPack
   pub pack-then-unpack : number.PackThenUnpack
-  pub decoded-within : synthesis.Within64
+  pub decoded-within : decoder.Within64
 
 -- 3. None of the 18 scanned choices, each shape with each gain that the tables hold, beats the answer; decoded again it gives the winner's
 -- very pulses; it depends on the sixteen factors alone. The shapes are sought with the pair that belongs to the pulses placed, after every pulse.

@@ -1,5 +1,5 @@
 -- The claims of specs/Claims.antt. Assumes nothing.
-use mathlib.Core.Path.{_≡_, sym, ap, subst}
+use mathlib.Core.Path.{_≡_, sym, ap}
 use borrow.Author.Tests.{not-false, eqb-true, eq-eqb}
 use lib.ListN.{length}
 use Rattle.refusals.specs.declared.Answer.the-variants.{Done}
@@ -8,10 +8,7 @@ use Rattle.decoder.specs.Decoded.{fieldPulses, fieldFactors}
 use Rattle.sns_decode.specs.Claims.{DecodePinned, PulsesPinned, DecodeKeeps, PulsesKeep, DecodeTaken, DecodeTakes, DecodeWithin}
 use Rattle.refusals.proofs.Answers.{done, not-given}
 use mathlib.Core.Bool.{not}
-use lib.Ieee.{Float, nan}
-use Rattle.float_laws.specs.Size.{Within}
-use Rattle.list_laws.proofs.ListOf.{getD-listOf}
-use Rattle.synthesis.proofs.Claims.{within-64}
+use Rattle.decoder.proofs.Claims.{within-64}
 use Rattle.field_refusal.proofs.Accepted.{accepted, taken}
 use Rattle.refusals.proofs.Pinned.{pinned, keeps}
 
@@ -38,5 +35,4 @@ decode-takes f len = (there, back)
     back e = let d = done 9 0 _ _ e in record { long = eqb-true len 16 (not-false _ (d .0)); fields = accepted f (d .1) }
 
 pub decode-within : DecodeWithin
-decode-within f len e n h =
-    subst (λ (x : Float). Within x 64 1) (sym (getD-listOf 16 _ nan n h)) (within-64 _ _ _ _ _ _ _ _ (decode-takes f len .1 e .fields) n h)
+decode-within f len e n h = within-64 f (decode-takes f len .1 e .fields) n h

@@ -6,10 +6,10 @@ use lib.IntN.{ℤ}
 use lib.ListN.{getD}
 use lib.Ieee.{Float, nan}
 use Rattle.float_laws.specs.Size.{Within}
-use Rattle.synthesis.specs.Claims.{Input}
 use Rattle.refusals.specs.declared.Answer.{Answer}
 use Rattle.refusals.specs.declared.Answer.the-variants.{Done}
 use Rattle.frame_fields.specs.declared.Fields.{Fields}
+use Rattle.frame_fields.specs.Accepted.{Accepted}
 use Rattle.sns_decode.specs.Decode.{decodeAnswer, DecodeSays, PulsesSays}
 use Rattle.decoder.specs.Decoded.{fieldFactors}
 use Rattle.refusals.specs.Claims.{Keeps}
@@ -29,7 +29,7 @@ PulsesKeep = (f : Fields) → Keeps (PulsesSays f)
 -- what decode takes: rows below 32, a shape below 4, a gain of the shape, signs and indices in use below their ends, sixteen factors
 pub record DecodeTaken (f : Fields) (len : ℕ) : Type 0 where
   pub long : len ≡ 16
-  pub fields : Input (f .«low_row») (f .«high_row») (f .shape) (f .gain) (f .«sign_a») (f .«index_a») (f .«sign_b») (f .«index_b»)
+  pub fields : Accepted f
 
 abbrev pub DecodeTakes : Type 0
 DecodeTakes = (f : Fields) (len : ℕ) → (DecodeTaken f len → decodeAnswer f len ≡ Done) × (decodeAnswer f len ≡ Done → DecodeTaken f len)

@@ -33,10 +33,10 @@ fieldsOf q = record {
   «high_row» = q .stage1 .«ind_hf»;
   shape = q .stage2 .«shape_j»;
   gain = q .stage2 .gind;
-  «sign_a» = q .stage2 .numbers .«ls_inda»;
-  «sign_b» = q .stage2 .numbers .«ls_indb»;
-  «index_a» = q .stage2 .numbers .idxa;
-  «index_b» = q .stage2 .numbers .idxb;
+  «sign_a» = q .stage2 .numbers .«sign_a»;
+  «sign_b» = q .stage2 .numbers .«sign_b»;
+  «index_a» = q .stage2 .numbers .«index_a»;
+  «index_b» = q .stage2 .numbers .«index_b»;
 }
 
 -- a refused call's other fields are 0

@@ -9,22 +9,24 @@ use lib.Ieee.{Float, nan, lt}
 use Rattle.float_laws.specs.Bounded.{Bounded}
 use Rattle.float_laws.specs.Kind.{finite}
 use Rattle.float_laws.proofs.Size.{within-finite}
+use Rattle.frame_fields.proofs.Joint.{joint-within}
+use Rattle.shape_numbers.proofs.Claims.{numbers-indexed, pulses-again}
+use Rattle.pulse_length.proofs.Squares.{shaped-sixteen}
 use Rattle.stage2_target.specs.Target.{targetOf, absolutesOf}
 use Rattle.stage2_target.proofs.Claims.{target-bounded, absolutes-bounded}
-use Rattle.shape_search.proofs.Claims.{shapes-sound}
 use Rattle.shape_search.proofs.Sized.{searches-finite}
 use Rattle.candidates.specs.declared.Choice.{Choice}
 use Rattle.candidates.specs.Scan.{choiceAt, gainOf, distortionAt, winnerOf}
 use Rattle.candidates.specs.Claims.{Comparable}
 use Rattle.candidates.proofs.Choices.{all-tried}
 use Rattle.candidates.proofs.Claims.{units, winner-first, winner-only}
-use Rattle.stage2.specs.Stage2.{pulsesFor, candidatesOf, choiceOf, selectedOf, answerOf, stage2Of}
+use Rattle.stage2.specs.Stage2.{signedFor, candidatesOf, choiceOf, selectedOf, resultOf, stage2Of}
 use Rattle.stage2.specs.Claims.{ChoiceFirst, ChoiceOnly, distortionWith, NoneBelow, Unpacks, JointTops, NothingNan}
 use Rattle.stage2.proofs.Steps.{candidate-at}
-use Rattle.stage2.proofs.Winner.{unpacks, low-top, high-top}
+use Rattle.stage2.proofs.Signs.{signed-shaped}
 
 comparable : (t : List Float) → ((n : ℕ) → n < 16 → T (finite (getD t n nan))) → Comparable t (candidatesOf t)
-comparable t h = record { target = h; units = λ s l. subst (Bounded 16 1) (sym (candidate-at t s l)) (units t (pulsesFor t s) (shapes-sound (absolutesOf t) s)) }
+comparable t h = record { target = h; units = λ s l. subst (Bounded 16 1) (sym (candidate-at t s l)) (units (signedFor t s) (shaped-sixteen s (signedFor t s) (signed-shaped t s))) }
 
 pub choice-first : ChoiceFirst
 choice-first t h = record { choice = winnerOf t (candidatesOf t); is = unfold choiceOf in refl; first = winner-first t (candidatesOf t) (comparable t h) }
@@ -46,15 +48,15 @@ none-below t f shape gain s g =
     (f .first .least (w .choice) (w .below)))
 
 pub winner-unpacks : Unpacks
-unfolding stage2Of answerOf
-winner-unpacks residual code = unpacks (targetOf residual) (selectedOf (targetOf residual) .«shape_j»)
+unfolding stage2Of resultOf
+winner-unpacks residual code = let t = targetOf residual in let s = selectedOf t .«shape_j» in pulses-again s (signedFor t s) (signed-shaped t s)
 
 pub joint-tops : JointTops
-unfolding stage2Of answerOf
+unfolding stage2Of resultOf
 joint-tops residual code =
     let t = targetOf residual in
     let s = selectedOf t in
-    (low-top t (s .«shape_j») (s .gind), high-top t (s .«shape_j») (s .gind))
+    joint-within (s .«shape_j») (s .gind) _ (numbers-indexed (s .«shape_j») (signedFor t (s .«shape_j»)) (signed-shaped t (s .«shape_j»)))
 
 pub nothing-nan : NothingNan
 nothing-nan residual B =

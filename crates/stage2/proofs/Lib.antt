@@ -1,4 +1,3 @@
-pub mod Cases
-pub mod Winner
+pub mod Signs
 pub mod Steps
 pub mod Claims

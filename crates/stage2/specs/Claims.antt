@@ -10,12 +10,12 @@ use Rattle.float_laws.specs.Bounded.{Bounded}
 use Rattle.float_laws.specs.Kind.{finite}
 use Rattle.float_laws.specs.Least.{FirstLeast}
 use Rattle.sns_tables.specs.Gains.{gainsOf, gainAt}
+use Rattle.shape_numbers.specs.Pulses.{Shaped, pulsesAt}
 use Rattle.stage2_target.specs.Target.{targetOf, absolutesOf}
 use Rattle.shape_search.specs.Claims.{Finite}
 use Rattle.candidates.specs.Candidate.{distortionOf}
 use Rattle.candidates.specs.Scan.{choices, choiceAt, distortionAt}
 use Rattle.candidates.specs.Claims.{Comparable}
-use Rattle.stage2.specs.Numbers.{unpackedOf}
 use Rattle.stage2.specs.Stage2.{candidatesOf, choiceOf, signedFor, stage2Of}
 
 -- the chosen shape and gain are those of the first of the scanned candidates with the least computed distortion, for every finite target
@@ -41,11 +41,15 @@ NoneBelow =
     (t : List Float) → FirstChoice t → (shape gain : ℕ) → shape < 4 → gain < gainsOf shape
     → T (not (lt (distortionWith t shape gain) (distortionWith t (choiceOf t .shape) (choiceOf t .gain))))
 
+-- the signed pulses of each shape are as many as the shape has, where it has them, for every target
+abbrev pub SignedShaped : Type 0
+SignedShaped = (t : List Float) (shape : ℕ) → Shaped shape (signedFor t shape)
+
 -- the signs and indices, unpacked, give the winner's very pulses
 abbrev pub Unpacks : Type 0
 Unpacks =
     (residual code : List Float) → let r = stage2Of residual code in
-    unpackedOf (r .«shape_j») (r .numbers) ≡ signedFor (targetOf residual) (r .«shape_j»)
+    pulsesAt (r .«shape_j») (r .numbers) ≡ signedFor (targetOf residual) (r .«shape_j»)
 
 -- the joint index is at most 33460055 for shapes 0 and 1, and 16708095 for shapes 2 and 3
 abbrev pub JointTops : Type 0

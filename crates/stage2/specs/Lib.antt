@@ -1,3 +1,2 @@
-pub mod Numbers
 pub mod Stage2
 pub mod Claims

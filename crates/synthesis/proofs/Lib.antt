@@ -1,4 +1,2 @@
 pub mod Sums
-pub mod Squares
 pub mod Within
-pub mod Claims

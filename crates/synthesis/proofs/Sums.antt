@@ -18,20 +18,8 @@ use Rattle.sns_tables.specs.Rotation.{dColumns}
 use Rattle.sns_tables.proofs.Rotation.{column-entry}
 use Rattle.float_laws.specs.Running.{sumTo}
 use Rattle.sns_tables.specs.Codes.{codeOf}
-use Rattle.synthesis.specs.Synthesis.{squaresOf, scaleOf, columnsTo, synthesised, floatsOf, factorOf, factorsOf}
-
--- the squares from k on: the one at k, and the others
-pub squares-at : (y : List ℤ) (k : ℕ) → k < length y → squaresOf (drop k y) ≡ natAbs (getD y k (pos 0)) * natAbs (getD y k (pos 0)) + squaresOf (drop (k + 1) y)
-unfolding squaresOf
-squares-at y k h = rw (drop-cons y k (pos 0) h, add-one)
-
-pub squares-end : (y : List ℤ) (k : ℕ) → length y ≤ k → squaresOf (drop k y) ≡ 0
-unfolding squaresOf
-squares-end y k h = rw (drop-of-length-le y h)
-
--- sixteen pulses as floats
-pub floats-are : (y : List ℤ) → length y ≡ 16 → listOf 16 (λ k. ofInt binary32 (getD y k (pos 0))) ≡ floatsOf y
-floats-are y l = sym (is-listOf 16 (λ k. ofInt binary32 (getD y k (pos 0))) (ofInt binary32 (pos 0)) (floatsOf y) (length-map y (ofInt binary32) ∙ l) (λ i h. List·getD-map (ofInt binary32) y i (pos 0)))
+use Rattle.pulse_length.specs.Length.{floatsOf}
+use Rattle.synthesis.specs.Synthesis.{scaleOf, columnsTo, synthesised, factorOf, factorsOf}
 
 -- the sum over columns
 pub columns-none : (x : List Float) (n : ℕ) → ofBits binary32 0 ≡ columnsTo x n 0

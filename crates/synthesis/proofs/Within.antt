@@ -26,13 +26,16 @@ use Rattle.sns_tables.specs.Gains.{over4096, gainRows, gainsOf, gainAt}
 use Rattle.sns_tables.proofs.Sizes.{lfcb-grid, hfcb-grid, d-grid, shapes}
 use Rattle.shapes.specs.Sets.{setA}
 use Rattle.numbering.specs.Numbering.{pulsesOf}
+use Rattle.numbering.proofs.Counts.{pulses-append, pulses-next}
 use Rattle.roots.proofs.Unit.{root-at-least}
-use Rattle.decoder_pulses.specs.Pulses.{restPulses}
+use Rattle.shape_numbers.specs.Pulses.{restPulses}
 use Rattle.float_laws.specs.Running.{sumTo}
 use Rattle.sns_tables.specs.Codes.{codeOf}
-use Rattle.synthesis.specs.Synthesis.{Accepted, Sixteen, squaresOf, lengthOf, scaleOf, columnsTo, floatsOf, factorOf}
-use Rattle.synthesis.proofs.Sums.{floats-are}
-use Rattle.synthesis.proofs.Squares.{pulses-append, pulses-under, shape-pulses, shape-sixteen}
+use Rattle.pulse_length.specs.Length.{Sixteen, squaredLength, lengthOf, floatsOf}
+use Rattle.synthesis.specs.Synthesis.{Synthesisable, scaleOf, columnsTo, factorOf}
+use Rattle.synthesis.specs.Claims.{FactorsWithin11}
+use Rattle.pulse_length.proofs.Squares.{pulses-under, shape-pulses, shaped-sixteen}
+use Rattle.pulse_length.proofs.FloatLaws.{float-at}
 
 -- ---- THE TESTS
 -- f32 holds 361 * k / 1024 for the pulse counts that there are
@@ -74,25 +77,14 @@ code-within low high n p q l = by (ltb n 8) refl
 
 -- ---- the sum over columns
 module _ (y : List ℤ) (s : Sixteen y) (few : pulsesOf y ≤ 11) (n : ℕ) (l : n < 16) where
-  -- the pulses of the first columns
-  pulses-next : (c : ℕ) → c < 16 → pulsesOf (take (suc c) y) ≡ pulsesOf (take c y) + natAbs (getD y c (pos 0))
-  unfolding pulsesOf
-  pulses-next c h = ap pulsesOf (take-suc y c (pos 0) (rw (s .places) h)) ∙ pulses-append (take c y) (getD y c (pos 0) ∷ []) ∙ ap (λ (k : ℕ). pulsesOf (take c y) + k) (alone (natAbs (getD y c (pos 0))))
-    where
-      alone : (k : ℕ) → k + 0 ≡ k
-      alone k = omega arith
-
   pulses-few : (c : ℕ) → pulsesOf (take c y) ≤ 11
   pulses-few c = omega (arith, few, ap pulsesOf (sym (take-append-drop c y)) ∙ pulses-append (take c y) (drop c y))
-
-  float-at : (c : ℕ) → c < 16 → ofInt binary32 (getD y c (pos 0)) ≡ getD (floatsOf y) c nan
-  float-at c h = sym (ap (λ (x : List Float). getD x c nan) (sym (floats-are y (s .places))) ∙ getD-listOf 16 (λ k. ofInt binary32 (getD y k (pos 0))) nan c h)
 
   term-within : (c : ℕ) → c < 16 → natAbs (getD y c (pos 0)) ≤ 11 → Within (mul binary32 (getD (floatsOf y) c nan) (dAt n c)) (361 * natAbs (getD y c (pos 0))) 1024
   term-within c h f =
       let k = natAbs (getD y c (pos 0)) in
       mul-within binary32 (getD (floatsOf y) c nan) (dAt n c) k 1 361 1024 (361 * k) 1024 (lit< tt) (lit< tt) (lit< tt) (step-exact k f) (even k)
-      (subst (λ (x : Float). Within x k 1) (float-at c h) (int-within binary32 (getD y c (pos 0)) (le-trans f (lit≤ tt)))) (d-grid .size n c l h)
+      (subst (λ (x : Float). Within x k 1) (sym (float-at y (s .places) c h)) (int-within binary32 (getD y c (pos 0)) (le-trans f (lit≤ tt)))) (d-grid .size n c l h)
     where
       even : (k : ℕ) → k * 361 * 1024 ≤ 361 * k * (1 * 1024)
       even k = omega arith
@@ -103,7 +95,7 @@ module _ (y : List ℤ) (s : Sixteen y) (few : pulsesOf y ≤ 11) (n : ℕ) (l :
   columns-within (suc c) h =
       let p = pulsesOf (take c y) in
       let k = natAbs (getD y c (pos 0)) in
-      let e = pulses-next c h in
+      let e = pulses-next y c (rw (s .places) h) in
       let f : p + k ≤ 11 = subst (λ (m : ℕ). m ≤ 11) e (pulses-few (suc c)) in
       subst (λ (m : ℕ). Within (columnsTo (floatsOf y) n (suc c)) (361 * m) 1024) (sym e)
       (add-within binary32 (361 * (p + k)) 1024 (lit< tt) (step-exact (p + k) f) (columnsTo (floatsOf y) n c) (mul binary32 (getD (floatsOf y) c nan) (dAt n c)) (361 * p) (361 * k) (shared p k)
@@ -119,9 +111,9 @@ module _ (y : List ℤ) (s : Sixteen y) (few : pulsesOf y ≤ 11) (n : ℕ) (l :
   sum-within = subst (λ (v : List ℤ). Within (columnsTo (floatsOf y) n 16) (361 * pulsesOf v) 1024) (take-all 16 y (le-of-eq (s .places))) (columns-within 16 (lit≤ tt))
 
 -- ---- the factors
-module _ (low high shape gain : ℕ) (y : List ℤ) (h : Accepted low high shape gain y) (n : ℕ) (l : n < 16) where
+module _ (low high shape gain : ℕ) (y : List ℤ) (h : Synthesisable low high shape gain y) (n : ℕ) (l : n < 16) where
   sixteen : Sixteen y
-  sixteen = shape-sixteen shape y (h .shaped)
+  sixteen = shaped-sixteen shape y (h .shaped)
 
   -- k pulses, a gain of at most top / 4096 and a root of at least b: the gain over the root is at most q / 1024
   module _ (k top b q : ℕ) (e : pulsesOf y ≡ k) (g : Within (gainAt shape gain) top 4096) where
@@ -131,12 +123,12 @@ module _ (low high shape gain : ℕ) (y : List ℤ) (h : Accepted low high shape
     scaled B few r x d m =
         mul-within binary32 (scaleOf shape gain y) (columnsTo (floatsOf y) n 16) q 1024 (361 * k) 1024 6177 1024 (lit< tt) (lit< tt) (lit< tt) tt m
         (div-within binary32 top 4096 b 1 q 1024 (lit< tt) B (lit< tt) (lit< tt) x d (gainAt shape gain) (lengthOf y) g
-        (root-at-least (squaresOf y) b (sixteen .above) (sixteen .below) (le-trans r (subst (λ (j : ℕ). j ≤ squaresOf y) e (pulses-under y)))))
+        (root-at-least (squaredLength y) b (sixteen .above) (sixteen .below) (le-trans r (subst (λ (j : ℕ). j ≤ squaredLength y) e (pulses-under y)))))
         (subst (λ (j : ℕ). Within (columnsTo (floatsOf y) n 16) (361 * j) 1024) e (sum-within y sixteen (subst (λ (j : ℕ). j ≤ 11) (sym e) few) n l))
 
   product-within : Within (mul binary32 (scaleOf shape gain y) (columnsTo (floatsOf y) n 16)) 6177 1024
   unfolding round topGain
-  product-within = at-shape shape (shape-pulses shape y (h .shaped)) (gain-top shape gain (h .shape-below) (h .gain-below)) (h .shape-below)
+  product-within = at-shape shape (shape-pulses shape y (h .shaped)) (gain-top shape gain (h .tables .shape-below) (h .tables .gain-below)) (h .tables .shape-below)
     where
       at-shape : (s : ℕ) → pulsesOf y ≡ setA s .pulses + restPulses s → Within (gainAt shape gain) (topGain s) 4096 → s < 4
           → Within (mul binary32 (scaleOf shape gain y) (columnsTo (floatsOf y) n 16)) 6177 1024
@@ -147,9 +139,12 @@ module _ (low high shape gain : ℕ) (y : List ℤ) (h : Accepted low high shape
       at-shape (suc (suc (suc (suc s)))) p g b = absurd (omega arith)
 
   -- the code, and the product
-  pub factor-within : Within (factorOf low high shape gain y n) 11 1
+  factor-within : Within (factorOf low high shape gain y n) 11 1
   unfolding round
   factor-within =
       within-up (factorOf low high shape gain y n) 11137 1024 11 1 (lit< tt) (lit≤ tt)
       (add-within binary32 11137 1024 (lit< tt) tt (codeOf low high n) (mul binary32 (scaleOf shape gain y) (columnsTo (floatsOf y) n 16)) 4960 6177 (lit≤ tt)
-      (code-within low high n (h .low-row) (h .high-row) l) product-within)
+      (code-within low high n (h .tables .low-row) (h .tables .high-row) l) product-within)
+
+pub factors-within-11 : FactorsWithin11
+factors-within-11 low high shape gain y h n l = factor-within low high shape gain y h n l

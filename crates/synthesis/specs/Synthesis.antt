@@ -13,32 +13,15 @@ use Rattle.list_laws.specs.ListOf.{listOf}
 use Rattle.sns_tables.specs.Codebooks.{lfcbRows, hfcbRows, codeAt}
 use Rattle.sns_tables.specs.Codes.{codeOf}
 use Rattle.sns_tables.specs.Rotation.{dAt}
-use Rattle.sns_tables.specs.Gains.{gainsOf, gainAt}
-use Rattle.decoder_pulses.specs.Pulses.{Shaped}
-use Rattle.roots.specs.Root.{rootOf}
+use Rattle.sns_tables.specs.Gains.{gainAt}
+use Rattle.frame_fields.specs.Accepted.{InTables}
+use Rattle.shape_numbers.specs.Pulses.{Shaped}
+use Rattle.pulse_length.specs.Length.{lengthOf, floatsOf}
 
 -- what is synthesised: rows, shape and gain within their tables, and pulses of the shape
-pub record Accepted (low high shape gain : ℕ) (y : List ℤ) : Type 0 where
-  pub low-row : low < 32
-  pub high-row : high < 32
-  pub shape-below : shape < 4
-  pub gain-below : gain < gainsOf shape
+pub record Synthesisable (low high shape gain : ℕ) (y : List ℤ) : Type 0 where
+  pub tables : InTables low high shape gain
   pub shaped : Shaped shape y
-
--- ---- their length r, the root of the sum of their squares
-unfoldable pub squaresOf : List ℤ → ℕ
-squaresOf [] = 0
-squaresOf (y ∷ ys) = natAbs y * natAbs y + squaresOf ys
-
-abbrev pub lengthOf : List ℤ → Float
-lengthOf y = rootOf (squaresOf y)
-
--- what the pulses of a shape are like: sixteen, each at most 10 in size, with a squared length from 1 to 101
-pub record Sixteen (y : List ℤ) : Type 0 where
-  pub places : length y ≡ 16
-  pub small : (k : ℕ) → k < 16 → natAbs (getD y k (pos 0)) ≤ 10
-  pub above : 1 ≤ squaresOf y
-  pub below : squaresOf y ≤ 101
 
 -- ---- gain g divided by r
 abbrev pub scaleOf : ℕ → ℕ → List ℤ → Float
@@ -52,10 +35,6 @@ columnsTo x n columns = sumTo (λ column. mul binary32 (getD x column nan) (dAt 
 -- code n + g times the sum over columns
 abbrev pub synthesised : (ℕ → Float) → List Float → Float → ℕ → Float
 synthesised code x g n = add binary32 (code n) (mul binary32 g (columnsTo x n 16))
-
--- the pulses as floats
-abbrev pub floatsOf : List ℤ → List Float
-floatsOf y = map (ofInt binary32) y
 
 -- factor n = code n + (g/r) times the sum over columns of y times D[n][column]
 abbrev pub factorOf : ℕ → ℕ → ℕ → ℕ → List ℤ → ℕ → Float

@@ -1,68 +1,24 @@
 // The decoder's synthesis: sixteen factors of two codebook rows, a shape's pulses and a gain. Public for the crates
 // above only: a caller lends the tables and shows the `requires`. Every result is pinned.
 ghost use mathlib.Core.Path.{_≡_};
-ghost use Prim.Native.Nat.{_<_, _≤_, _*_};
-ghost use lib.IntN.{natAbs};
+ghost use Prim.Native.Nat.{_<_, _*_};
 ghost use lib.ListN.{getD};
-ghost use lib.Ieee.{nan, binary32, ofInt};
+ghost use lib.Ieee.{nan};
 ghost use Rattle.list_laws.specs.ListOf.{listOf};
 ghost use Rattle.sns_tables.specs.Codebooks.{lfcbRows, hfcbRows};
 ghost use Rattle.sns_tables.specs.Rotation.{dColumns};
 ghost use Rattle.sns_tables.specs.Gains.{gainsOf};
 ghost use Rattle.roots.specs.Root.{rootTable};
+ghost use Rattle.pulse_length.specs.Length.{Sixteen};
 ghost use Rattle.sns_tables.specs.Codes.{codeOf};
-ghost use Rattle.synthesis.specs.Synthesis.{Accepted, Sixteen, squaresOf, scaleOf, columnsTo, synthesised, floatsOf, factorsOf};
-
-// A pulse squared.
-fn square(y: i32) -> usize
-    requires { ⌜ natAbs y ≤ 10 ⌝ }
-    ensures { λ r. ⌜ r ≡ natAbs y * natAbs y ⌝ }
-{
-    (y * y) as usize
-}
-
-// A pulse as a float.
-fn pulse(y: i32) -> f32
-    requires { ⌜ natAbs y ≤ 10 ⌝ }
-    ensures { λ r. ⌜ r ≡ ofInt binary32 y ⌝ }
-{
-    y as f32
-}
-
-// The squared length of sixteen pulses.
-fn squared_length(y: &[i32; 16]) -> usize
-    requires { ⌜ Sixteen (now y) ⌝ }
-    ensures { λ r. ⌜ r ≡ squaresOf (now (y .entry)) ⌝ }
-{
-    let mut sum = 0usize;
-    let mut k = 0usize;
-    while k < 16 {
-        sum += square(y[k]);
-        k += 1;
-    }
-    sum
-}
-
-// Sixteen pulses as floats.
-fn floats(y: &[i32; 16]) -> [f32; 16]
-    requires { ⌜ Sixteen (now y) ⌝ }
-    ensures { λ r. ⌜ r ≡ floatsOf (now (y .entry)) ⌝ }
-{
-    let mut x = [0.0f32; 16];
-    let mut k = 0usize;
-    while k < 16 {
-        x[k] = pulse(y[k]);
-        k += 1;
-    }
-    x
-}
+ghost use Rattle.synthesis.specs.Synthesis.{Synthesisable, scaleOf, columnsTo, synthesised, factorsOf};
 
 // The gain divided by the pulses' length.
 fn scale(roots: &[f32; 101], shape: usize, gain: usize, y: &[i32; 16]) -> f32
     requires { ⌜ (now roots ≡ rootTable) × (shape < 4) × (gain < gainsOf shape) × Sixteen (now y) ⌝ }
     ensures { λ r. ⌜ r ≡ scaleOf shape gain (now (y .entry)) ⌝ }
 {
-    shapes::adj_gain(shape, gain) / roots::root(roots, squared_length(y))
+    shapes::adj_gain(shape, gain) / pulse_length::length(roots, y)
 }
 
 // The codes of a low row and a high row, from their lent tables.
@@ -121,11 +77,11 @@ pub fn factors(
     y: &[i32; 16],
 ) -> [f32; 16]
     requires { ⌜ (now lfcb ≡ lfcbRows) × (now hfcb ≡ hfcbRows) × (now d ≡ dColumns) × (now roots ≡ rootTable) ⌝ }
-    requires { ⌜ Accepted low high shape gain (now y) ⌝ }
+    requires { ⌜ Synthesisable low high shape gain (now y) ⌝ }
     ensures { λ r. ⌜ r ≡ factorsOf low high shape gain (now (y .entry)) ⌝ }
 {
     let code = codes(lfcb, hfcb, low, high);
-    let x = floats(y);
+    let x = pulse_length::floats(y);
     let g = scale(roots, shape, gain, y);
     synthesise(d, &code, &x, g)
 }

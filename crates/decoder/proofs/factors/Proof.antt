@@ -1,12 +1,12 @@
 -- Accepted inputs are accepted by synthesis, and each table is what it is lent as.
 use mathlib.Core.Path.{_∙_}
 use borrow.Author.Needs.{needs}
-use Rattle.synthesis.proofs.Claims as synthesis
+use Rattle.decoder.proofs.Claims.{synthesisable}
 use Rattle.decoder.proofs.factors.Statement.{statement}
 use Rattle.decoder.proofs.factors.Tie as tie
 
 pulses-requires : tie.Need-pulses-requires
-pulses-requires c κs = c .pre .shape-below
+pulses-requires c κs = c .pre .tables .shape-below
 
 lfcb-requires : tie.Need-lfcb-requires
 lfcb-requires c κs = search needs
@@ -38,7 +38,7 @@ factors-requires c κs =
     let d = r .before in
     let y = d .before .before .before in (
       (d .before .before .lfcb .ensures, d .before .hfcb .ensures, d .d-by-columns .ensures, r .roots .ensures),
-      rw (y .pulses .ensures) (synthesis.accepted _ _ _ _ _ _ _ _ (y .before .pre)),
+      rw (y .pulses .ensures) (synthesisable _ (y .before .pre)),
     )
 
 returns : tie.Need-returns

@@ -9,7 +9,8 @@ use Rattle.sns_tables.specs.Gains.{gainsOf}
 use Rattle.shapes.specs.Sets.{setA}
 use Rattle.shapes.proofs.Sizes.{size-regular-b}
 use Rattle.shapes.specs.declared.PulseSet.{PulseSet}
-use Rattle.field_refusal.specs.Fields.{usesB, fieldQuestions}
+use Rattle.frame_fields.specs.Accepted.{usesB}
+use Rattle.field_refusal.specs.Fields.{fieldQuestions}
 use Rattle.refusals.specs.declared.Answer.{Answer}
 use Rattle.refusals.specs.Answers.{answerOf}
 use Rattle.refusals.proofs.Answers.{given, not-given, none-left}

@@ -1,4 +1,4 @@
--- A small number fits an i32 with either sign.
+-- A byte fits an i32 with either sign.
 use mathlib.Core.Path.{_≡_, refl, _∙_, subst⁻¹}
 use Prim.Native.Nat.{ℕ, zero, suc, _<_}
 use borrow.Author.Needs.{needs}
@@ -14,15 +14,15 @@ use Rattle.numbering.proofs.mind2vec_one.Tie as tie
 cast-x : tie.Need-cast-x
 cast-x c = search needs
 
--- minus a small number, as an i32
-small : (d : ℕ) → d < 11 → toZ w32 d ≡ pos d
+-- minus a byte, as an i32
+small : (d : ℕ) → d < 256 → toZ w32 d ≡ pos d
 small d h = toZ-pos w32 (omega arith)
 
-fits : (d : ℕ) → d < 11 → SFits w32 (pos 0 -ℤ pos d)
+fits : (d : ℕ) → d < 256 → SFits w32 (pos 0 -ℤ pos d)
 fits zero h = sfits-lit tt
 fits (suc d) h = subst⁻¹ (λ z. SFits w32 z) (+ℤ-idl (negsuc d)) (record { sfits = omega arith })
 
-negative : (s d : ℕ) → d < 11 → (s ≡ 0 → ⊥) → pos 0 -ℤ pos d ≡ signed s d
+negative : (s d : ℕ) → d < 256 → (s ≡ 0 → ⊥) → pos 0 -ℤ pos d ≡ signed s d
 unfolding signed
 negative zero d h z = absurd (z refl)
 negative (suc s) zero h z = refl

@@ -23,7 +23,7 @@ enum-told : tie.Need-enum-told
 enum-told c = search needs
 
 pulses-requires : tie.Need-pulses-requires
-pulses-requires c κs = accepted _ (sym (c .before .before .field-refusal .ensures) ∙ c .enum-told .given .1) .shape-below
+pulses-requires c κs = accepted _ (sym (c .before .before .field-refusal .ensures) ∙ c .enum-told .given .1) .tables .shape-below
 
 fill-pulses-requires : tie.Need-fill-pulses-requires
 fill-pulses-requires c κs = search needs

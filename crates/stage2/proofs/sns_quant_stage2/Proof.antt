@@ -1,13 +1,14 @@
 -- Each step's result is what the next one asks, and all together are the definition.
 use mathlib.Core.Path.{_∙_, ap}
 use mathlib.Core.List.{List}
-use Prim.Native.Nat.{_-_}
+use Prim.Native.Nat.{_<_, _-_}
+use native.Mathlib.Omega.{arith}
 use borrow.Author.Needs.{needs}
 use lib.Ieee.{Float}
 use Rattle.list_laws.specs.ListOf.{listOf}
 use Rattle.shape_search.specs.Shape.{shapePulses}
 use Rattle.stage2_target.proofs.Claims.{absolutes-own}
-use Rattle.stage2.proofs.Steps.{shape-room, numbers-room, joint-room, answer-is, stage2-is}
+use Rattle.stage2.proofs.Steps.{shape-room, numbers-room, joint-room, result-is, stage2-is}
 use Rattle.stage2.proofs.sns_quant_stage2.Statement.{statement}
 use Rattle.stage2.proofs.sns_quant_stage2.Tie as tie
 
@@ -23,35 +24,44 @@ absolutes-requires c κs = search needs
 search-shapes-requires : tie.Need-search-shapes-requires
 search-shapes-requires c κs = rw (c .before .absolutes .ensures) (absolutes-own _)
 
-select-requires : tie.Need-select-requires
-select-requires c κs =
+add-signs-requires : tie.Need-add-signs-requires
+add-signs-requires c κs =
     let y = c .before .before in
     y .search-shapes .ensures ∙ ap (λ (a : List Float). listOf 4 (shapePulses a)) (y .before .before .absolutes .ensures)
 
-add-signs-requires : tie.Need-add-signs-requires
-add-signs-requires c κs =
-    let s = c .before .before in
-    let y = s .before .before .before in
-    (y .search-shapes .ensures ∙ ap (λ (a : List Float). listOf 4 (shapePulses a)) (y .before .before .absolutes .ensures), shape-room _ _ (s .select .ensures))
+select-requires : tie.Need-select-requires
+select-requires c κs = search needs
+
+mul-enumerate : tie.Need-mul-enumerate
+mul-enumerate c = record { fits = omega (arith, shape-room _ _ (c .select .ensures)) }
+
+array-copy-out-enumerate : tie.Need-array-copy-out-enumerate
+array-copy-out-enumerate c = shape-room _ _ (c .select .ensures)
 
 enumerate-requires : tie.Need-enumerate-requires
 enumerate-requires c κs =
-    let s = c .before .before .before .select .ensures in
-    (shape-room _ _ s, numbers-room _ _ s _ (c .add-signs .ensures))
+    let s = c .before in
+    (shape-room _ _ (s .select .ensures), numbers-room _ _ (s .select .ensures) _ (s .before .before .before .add-signs .ensures))
 
 joint-index-requires : tie.Need-joint-index-requires
-joint-index-requires c κs = joint-room _ _ (c .before .before .before .before .select .ensures) _ (c .before .add-signs .ensures) _ (c .enumerate .ensures)
+joint-index-requires c κs =
+    let s = c .before .before in
+    (shape-room _ _ (s .select .ensures), joint-room _ _ (s .select .ensures) _ (s .before .before .before .add-signs .ensures) _ (c .enumerate .ensures))
 
-synthesize-requires : tie.Need-synthesize-requires
-synthesize-requires c κs = search needs
+d-by-columns-requires : tie.Need-d-by-columns-requires
+d-by-columns-requires c κs = search needs
+
+synthesise-requires : tie.Need-synthesise-requires
+synthesise-requires c κs = search needs
 
 returns : tie.Need-returns
 returns c =
-    let j = c .before .before .before .before in
-    let s = j .before .before .before .before .before in
-    let t = s .before .before .before .before .before .before .before in
+    let j = c .before .before .before .before .before in
+    let s = j .before .before .before in
+    let v = s .before .before .before in
+    let t = v .before .before .before .before .before .before .before in
     stage2-is _ _ _ _ (t .rotate .ensures)
-    (answer-is _ _ (s .select .ensures) _ (j .before .before .add-signs .ensures) _ (j .before .enumerate .ensures) _ _ _ (j .joint-index .ensures) (c .synthesize .ensures))
+    (result-is _ _ (s .select .ensures) _ (v .add-signs .ensures) _ (j .before .enumerate .ensures) _ _ _ (j .joint-index .ensures) (c .synthesise .ensures))
 
 pub sns-quant-stage2-spec : {M : Type 1} → statement M
 sns-quant-stage2-spec =
@@ -61,9 +71,12 @@ sns-quant-stage2-spec =
     rotate-requires
     absolutes-requires
     search-shapes-requires
-    select-requires
     add-signs-requires
+    select-requires
+    mul-enumerate
+    array-copy-out-enumerate
     enumerate-requires
     joint-index-requires
-    synthesize-requires
+    d-by-columns-requires
+    synthesise-requires
     returns)

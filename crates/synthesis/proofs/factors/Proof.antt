@@ -1,6 +1,6 @@
 -- The codes, the floats and the scale are as the definition has them.
 use mathlib.Core.Path.{_∙_}
-use Rattle.synthesis.proofs.Squares.{shape-sixteen}
+use Rattle.pulse_length.proofs.Squares.{shaped-sixteen}
 use Rattle.synthesis.proofs.Sums.{factors-are}
 use borrow.Author.Needs.{needs}
 use Rattle.synthesis.proofs.factors.Statement.{statement}
@@ -10,13 +10,13 @@ codes-requires : tie.Need-codes-requires
 codes-requires c κs = search needs
 
 floats-requires : tie.Need-floats-requires
-floats-requires c κs = shape-sixteen _ _ (c .before .pre .1 .shaped)
+floats-requires c κs = shaped-sixteen _ _ (c .before .pre .1 .shaped)
 
 scale-requires : tie.Need-scale-requires
 scale-requires c κs =
     let s = c .before .before in
     let a = s .pre .1 in
-    (s .pre .0 .3, a .shape-below, a .gain-below, shape-sixteen _ _ (a .shaped))
+    (s .pre .0 .3, a .tables .shape-below, a .tables .gain-below, shaped-sixteen _ _ (a .shaped))
 
 synthesise-requires : tie.Need-synthesise-requires
 synthesise-requires c κs = search needs
