@@ -9,7 +9,7 @@ use lib.Dec.{T, lit<, lit≤}
 use lib.IntN.{pos}
 use lib.ListN.{getD}
 use lib.Ieee.{Float, nan, binary32, ofInt, sub, mul, div}
-use Rattle.float_laws.specs.Bounded.{Bounded}
+use Rattle.float_laws.specs.Bounded.{AllFinite, Bounded}
 use Rattle.float_laws.specs.Kind.{finite, plain}
 use Rattle.float_laws.specs.Least.{FirstLeast}
 use Rattle.float_laws.specs.Scan.{leastTo}
@@ -27,7 +27,7 @@ use Rattle.pulse_length.specs.Length.{squaredLength, lengthOf}
 use Rattle.pulse_length.proofs.Squares.{square-under}
 use Rattle.candidates.specs.Candidate.{candidateOf, distortionOf}
 use Rattle.candidates.specs.Scan.{choices, choiceAt, gainOf, distortionAt, winnerOf}
-use Rattle.candidates.specs.Claims.{Units, NoNan, WinnerFirst, WinnerOnly}
+use Rattle.candidates.specs.Claims.{Units, NoDistortionNan, WinnerFirst, WinnerOnly}
 use Rattle.candidates.proofs.Choices.{choices-are, choice-shape, choice-gain}
 
 pub units : Units
@@ -41,7 +41,7 @@ gain-six : (i : ℕ) → i < choices → Within (gainOf i) 6 1
 unfolding gainOf
 gain-six i h = within-up (gainOf i) 21014 4096 6 1 (lit< tt) (lit≤ tt) (gain-within (choiceAt i .shape) (choiceAt i .gain) (choice-shape i h) (choice-gain i h))
 
-term-plain : (t q : List Float) (g : Float) → ((n : ℕ) → n < 16 → T (finite (getD t n nan))) → Bounded 16 1 q → Within g 6 1 → (n : ℕ) → n < 16
+term-plain : (t q : List Float) (g : Float) → AllFinite 16 t → Bounded 16 1 q → Within g 6 1 → (n : ℕ) → n < 16
     → T (plain (squared (sub binary32 (getD t n nan) (mul binary32 g (getD q n nan)))))
 term-plain t q g F U G n l =
     square-plain binary32 (sub binary32 (getD t n nan) (mul binary32 g (getD q n nan)))
@@ -49,9 +49,9 @@ term-plain t q g F U G n l =
     (within-finite (mul binary32 g (getD q n nan)) 6 1
     (mul-within binary32 g (getD q n nan) 6 1 1 1 6 1 (lit< tt) (lit< tt) (lit< tt) (whole-exact binary32 6 (lit≤ tt)) (lit≤ tt) G (U n l))))
 
-pub no-nan : NoNan
+pub no-distortion-nan : NoDistortionNan
 unfolding distortionAt distortionOf
-no-nan t q C i h =
+no-distortion-nan t q C i h =
     let g = gainOf i in
     let p = getD q (choiceAt i .shape) [] in
     plain-no-nan (distortionOf t p g)
@@ -69,7 +69,7 @@ pub winner-first : WinnerFirst
 unfolding winnerOf
 winner-first t q C =
     subst (λ (n : ℕ). FirstLeast (distortionAt t q) n (leastTo (distortionAt t q) (choices - 1))) (back choices some-choice)
-    (least-first (distortionAt t q) (choices - 1) (λ i l. no-nan t q C i (subst (λ (n : ℕ). i < n) (back choices some-choice) l)))
+    (least-first (distortionAt t q) (choices - 1) (λ i l. no-distortion-nan t q C i (subst (λ (n : ℕ). i < n) (back choices some-choice) l)))
 
 pub winner-only : WinnerOnly
 winner-only t q C i h = first-unique (distortionAt t q) choices i (winnerOf t q) h (winner-first t q C)

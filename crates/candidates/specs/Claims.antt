@@ -7,8 +7,7 @@ use lib.Dec.{T}
 use lib.IntN.{ℤ}
 use lib.ListN.{getD}
 use lib.Ieee.{Float, nan, isNan}
-use Rattle.float_laws.specs.Bounded.{Bounded}
-use Rattle.float_laws.specs.Kind.{finite}
+use Rattle.float_laws.specs.Bounded.{AllFinite, Bounded}
 use Rattle.float_laws.specs.Least.{FirstLeast}
 use Rattle.sns_tables.specs.Gains.{gainsOf}
 use Rattle.pulse_length.specs.Length.{Sixteen}
@@ -36,12 +35,12 @@ Units = (y : List ℤ) → Sixteen y → Bounded 16 1 (candidateOf y)
 
 -- sixteen finite places, and four candidates
 pub record Comparable (t : List Float) (q : List (List Float)) : Type 0 where
-  pub target : (n : ℕ) → n < 16 → T (finite (getD t n nan))
+  pub target : AllFinite 16 t
   pub units : (s : ℕ) → s < 4 → Bounded 16 1 (getD q s [])
 
 -- no compared distortion is NaN, however large the target is
-abbrev pub NoNan : Type 0
-NoNan = (t : List Float) (q : List (List Float)) → Comparable t q → (i : ℕ) → i < choices → T (not (isNan (distortionAt t q i)))
+abbrev pub NoDistortionNan : Type 0
+NoDistortionNan = (t : List Float) (q : List (List Float)) → Comparable t q → (i : ℕ) → i < choices → T (not (isNan (distortionAt t q i)))
 
 -- the winner is the first of the scanned choices with the least computed distortion: none is smaller, and each earlier one is larger
 abbrev pub WinnerFirst : Type 0

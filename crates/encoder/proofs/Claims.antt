@@ -1,39 +1,33 @@
 -- The claims of both stages, for factors of at most 512: their residuals are at most 517. Assumes nothing.
 use mathlib.Core.List.{List}
-use Prim.Native.Nat.{ℕ, _<_}
-use lib.Dec.{T, lit≤}
-use lib.ListN.{getD}
-use lib.Ieee.{Float, nan}
+use lib.Dec.{lit≤}
+use lib.Ieee.{Float}
 use Rattle.float_laws.specs.Bounded.{Bounded}
-use Rattle.float_laws.specs.Kind.{finite}
-use Rattle.float_laws.proofs.Size.{within-finite}
+use Rattle.float_laws.proofs.Size.{bounded-finite}
 use Rattle.stage1.specs.Stage1.{residual}
 use Rattle.stage2_target.specs.Target.{targetOf}
-use Rattle.candidates.proofs.Claims.{no-nan}
+use Rattle.candidates.proofs.Claims.{no-distortion-nan}
 use Rattle.stage2.specs.Stage2.{candidatesOf}
-use Rattle.stage2.proofs.Claims.{choice-first, nothing-nan}
+use Rattle.stage2.proofs.Claims.{choice-first, residual-no-nan}
 use Rattle.stage1.proofs.Nearest as rows
 use Rattle.stage1.proofs.Residual.{residual-within}
 use Rattle.encoder.specs.Claims.{NoneNan, AllNearest}
-
-finite-factors : (x : List Float) → Bounded 16 512 x → (n : ℕ) → n < 16 → T (finite (getD x n nan))
-finite-factors x B n h = within-finite (getD x n nan) 512 1 (B n h)
 
 residuals : (x : List Float) → Bounded 16 512 x → Bounded 16 517 (residual x)
 residuals x B = residual-within 512 (lit≤ tt) x B
 
 pub none-nan : NoneNan
 none-nan x B =
-    let f = nothing-nan (residual x) (residuals x B) in
+    let f = residual-no-nan (residual x) (residuals x B) in
     record {
-      rows = λ row h. rows.no-nan x (finite-factors x B) row h;
+      rows = λ row h. rows.no-distance-nan x (bounded-finite 16 512 x B) row h;
       searches = f .0;
-      distortions = λ i h. no-nan (targetOf (residual x)) (candidatesOf (targetOf (residual x))) (f .1) i h;
+      distortions = λ i h. no-distortion-nan (targetOf (residual x)) (candidatesOf (targetOf (residual x))) (f .1) i h;
     }
 
 pub all-nearest : AllNearest
 all-nearest x B = record {
-  low = rows.low-first x (finite-factors x B);
-  high = rows.high-first x (finite-factors x B);
-  choice = choice-first (targetOf (residual x)) (nothing-nan (residual x) (residuals x B) .1 .target);
+  low = rows.low-first x (bounded-finite 16 512 x B);
+  high = rows.high-first x (bounded-finite 16 512 x B);
+  choice = choice-first (targetOf (residual x)) (residual-no-nan (residual x) (residuals x B) .1 .target);
 }

@@ -8,7 +8,7 @@ use Rattle.float_laws.specs.Bounded.{Bounded}
 use Rattle.float_laws.specs.Least.{FirstLeast}
 use Rattle.stage1.specs.Stage1.{lowDistance, highDistance, lowRow, highRow, residual}
 use Rattle.stage2_target.specs.Target.{targetOf, absolutesOf}
-use Rattle.shape_search.specs.Claims.{Finite}
+use Rattle.shape_search.specs.Claims.{ComparesFinite}
 use Rattle.candidates.specs.Scan.{choices, distortionAt}
 use Rattle.stage2.specs.Stage2.{candidatesOf}
 use Rattle.stage2.specs.Claims.{FirstChoice}
@@ -16,17 +16,17 @@ use Rattle.stage2.specs.Claims.{FirstChoice}
 -- no compared value is NaN: the distances of the rows, the products of the three searches (these are finite), the distortions of the choices
 pub record NothingNan (x : List Float) : Type 0 where
   pub rows : (row : ℕ) → row < 32 → T (not (isNan (lowDistance x row))) × T (not (isNan (highDistance x row)))
-  pub searches : Finite (absolutesOf (targetOf (residual x)))
+  pub searches : ComparesFinite (absolutesOf (targetOf (residual x)))
   pub distortions : (i : ℕ) → i < choices → T (not (isNan (distortionAt (targetOf (residual x)) (candidatesOf (targetOf (residual x))) i)))
 
 abbrev pub NoneNan : Type 0
 NoneNan = (x : List Float) → Bounded 16 512 x → NothingNan x
 
 -- the rows and the choice of the answer are the first with the least computed distance, and the first with the least computed distortion
-pub record Nearest (x : List Float) : Type 0 where
+pub record NearestFirst (x : List Float) : Type 0 where
   pub low : FirstLeast (lowDistance x) 32 (lowRow x)
   pub high : FirstLeast (highDistance x) 32 (highRow x)
   pub choice : FirstChoice (targetOf (residual x))
 
 abbrev pub AllNearest : Type 0
-AllNearest = (x : List Float) → Bounded 16 512 x → Nearest x
+AllNearest = (x : List Float) → Bounded 16 512 x → NearestFirst x

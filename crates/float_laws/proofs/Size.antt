@@ -5,7 +5,9 @@ use Prim.Native.Nat.{ℕ, zero, suc, _+_, _-_, _*_, _/_, _^_, _≤_, _<_}
 use native.Mathlib.Nat.{le-trans, le-of-eq, mul-comm, mul-assoc, mul-right-comm, mul-le-mul, mul-le-mul-right, mul-pos, add-mul, mul-mul-mul-comm}
 use native.Mathlib.Omega.{arith}
 use mathlib.Core.Bool.{Bool, true, false, not, _&&_, Bool·beq, cond}
+use mathlib.Core.List.{List}
 use lib.Dec.{T, ltb, leb→le, eqb→eq}
+use lib.ListN.{getD}
 use lib.Ieee.{Float, nan, inf, fin, Format, prec, emax, low, up, down, unlike, odd, units, round, neg, sum, add, sub, mul, le}
 use lib.Ieee.Fits.{down-pos, round-is, eq→eqb}
 use lib.Ieee.Exact.{HasValue}
@@ -14,6 +16,7 @@ use lib.Ieee.Order.{round-mono}
 use lib.Ieee.Positive.{through}
 use Rattle.float_laws.specs.Size.{Within, withinb, AtLeast, atLeastb, sized, exact}
 use Rattle.float_laws.specs.Kind.{finite, plain}
+use Rattle.float_laws.specs.Bounded.{AllFinite, Bounded}
 use Rattle.float_laws.proofs.Logic.{lt-or-eq}
 use Rattle.float_laws.proofs.NoNan.{round-plain}
 
@@ -32,6 +35,9 @@ pub within-finite : (x : Float) (a c : ℕ) → Within x a c → T (finite x)
 within-finite nan a c h = absurd h
 within-finite (inf s) a c h = absurd h
 within-finite (fin s m e) a c h = tt
+
+pub bounded-finite : (k limit : ℕ) (xs : List Float) → Bounded k limit xs → AllFinite k xs
+bounded-finite k limit xs h n l = within-finite (getD xs n nan) limit 1 (h n l)
 
 -- a larger bound
 pub within-up : (x : Float) (a c g h : ℕ) → 0 < c → a * h ≤ g * c → Within x a c → Within x g h

@@ -9,12 +9,12 @@ use Rattle.numbering.specs.Numbering.{PulseVector, leadSign, indexOf, si
 
 module _ (n k size : ℕ) where
   -- unpack, then pack: every index below the size comes back, and either sign
-  abbrev pub UnpackThenPack : Type 0
-  UnpackThenPack = (sign index : ℕ) → sign < 2 → index < size → (leadSign (vectorAt n k sign index) ≡ sign) × (indexOf (vectorAt n k sign index) ≡ index)
+  abbrev pub IndexComesBack : Type 0
+  IndexComesBack = (sign index : ℕ) → sign < 2 → index < size → (leadSign (vectorAt n k sign index) ≡ sign) × (indexOf (vectorAt n k sign index) ≡ index)
 
   -- pack, then unpack: every vector of exactly k pulses comes back
-  abbrev pub PackThenUnpack : Type 0
-  PackThenUnpack = (v : List ℤ) → PulseVector n k v → vectorAt n k (leadSign v) (indexOf v) ≡ v
+  abbrev pub VectorComesBack : Type 0
+  VectorComesBack = (v : List ℤ) → PulseVector n k v → vectorAt n k (leadSign v) (indexOf v) ≡ v
 
   -- the unpacked vector has length n and exactly k pulses
   abbrev pub Unpacked : Type 0
@@ -38,8 +38,8 @@ module _ (n k size : ℕ) where
   EachOnce = (v : List ℤ) → PulseVector n k v → Once v
 
   pub record OneToOne : Type 0 where
-    pub unpack-pack : UnpackThenPack
-    pub pack-unpack : PackThenUnpack
+    pub unpack-pack : IndexComesBack
+    pub pack-unpack : VectorComesBack
     pub unpacked : Unpacked
     pub packed : Packed
     pub each-once : EachOnce

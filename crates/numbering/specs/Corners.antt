@@ -20,24 +20,24 @@ unfoldable pub answer : Asked → List ℤ
 answer (offset n k) = pos (offsetOf n k) ∷ []
 answer (vector n k sign index) = vectorAt n k sign index
 
-unfoldable pub zeros : ℕ → List ℤ
-zeros n = replicate n (pos 0)
+unfoldable pub noPulses : ℕ → List ℤ
+noPulses n = replicate n (pos 0)
 
 unfoldable pub corners : List Corner
 corners =
     record { asked = offset 2 3; right = pos 13 ∷ [] } ∷
     record { asked = offset 3 3; right = pos 25 ∷ [] } ∷
     record { asked = offset 9 2; right = pos 19 ∷ [] } ∷
-    record { asked = vector 6 1 0 0; right = pos 1 ∷ zeros 5 } ∷
-    record { asked = vector 6 1 1 5; right = zeros 5 ++ negsuc 0 ∷ [] } ∷
-    record { asked = vector 10 10 0 0; right = pos 10 ∷ zeros 9 } ∷
-    record { asked = vector 10 10 0 1; right = pos 9 ∷ pos 1 ∷ zeros 8 } ∷
-    record { asked = vector 10 10 0 2; right = pos 9 ∷ negsuc 0 ∷ zeros 8 } ∷
-    record { asked = vector 10 10 0 3; right = pos 9 ∷ pos 0 ∷ pos 1 ∷ zeros 7 } ∷
-    record { asked = vector 10 10 0 2390003; right = zeros 9 ++ pos 10 ∷ [] } ∷
-    record { asked = vector 10 10 1 1; right = negsuc 8 ∷ pos 1 ∷ zeros 8 } ∷
-    record { asked = vector 16 8 0 15158271; right = zeros 15 ++ pos 8 ∷ [] } ∷
-    record { asked = vector 16 6 0 774911; right = zeros 15 ++ pos 6 ∷ [] } ∷
+    record { asked = vector 6 1 0 0; right = pos 1 ∷ noPulses 5 } ∷
+    record { asked = vector 6 1 1 5; right = noPulses 5 ++ negsuc 0 ∷ [] } ∷
+    record { asked = vector 10 10 0 0; right = pos 10 ∷ noPulses 9 } ∷
+    record { asked = vector 10 10 0 1; right = pos 9 ∷ pos 1 ∷ noPulses 8 } ∷
+    record { asked = vector 10 10 0 2; right = pos 9 ∷ negsuc 0 ∷ noPulses 8 } ∷
+    record { asked = vector 10 10 0 3; right = pos 9 ∷ pos 0 ∷ pos 1 ∷ noPulses 7 } ∷
+    record { asked = vector 10 10 0 2390003; right = noPulses 9 ++ pos 10 ∷ [] } ∷
+    record { asked = vector 10 10 1 1; right = negsuc 8 ∷ pos 1 ∷ noPulses 8 } ∷
+    record { asked = vector 16 8 0 15158271; right = noPulses 15 ++ pos 8 ∷ [] } ∷
+    record { asked = vector 16 6 0 774911; right = noPulses 15 ++ pos 6 ∷ [] } ∷
     []
 
 -- every corner's answer is the right one

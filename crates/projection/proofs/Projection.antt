@@ -1,13 +1,13 @@
 -- The projection: its causes of being dropped as the code tests them, its three outcomes, and one place more of a pair. Assumes nothing.
 use mathlib.Core.Path.{_≡_, refl, sym, ap, _∙_}
-use mathlib.Core.Bool.{Bool, true, false, not, _||_}
+use mathlib.Core.Bool.{Bool, true, false, not, _||_, cond}
 use mathlib.Core.List.{List}
 use Prim.Native.Nat.{ℕ, zero, suc, _≤_, _<_}
-use native.Mathlib.Nat.{le-refl}
+use native.Mathlib.Nat.{le-refl, le-trans, le-of-eq}
 use native.Mathlib.Omega.{arith}
-use borrow.Author.Tests.{lt-ltb, le-ltb, not-false}
-use lib.Dec.{T}
-use lib.ListN.{getD}
+use borrow.Author.Tests.{lt-ltb, le-ltb, ltb-false, not-false}
+use lib.Dec.{T, ltb, lit≤}
+use lib.ListN.{length, getD}
 use lib.Ieee.{Float, nan, inf, fin, binary32, ofBits, mul, div, lt, le}
 use Rattle.float_laws.specs.Absolute.{absOf}
 use Rattle.float_laws.specs.Kind.{finite}
@@ -16,11 +16,13 @@ use Rattle.float_laws.specs.Running.{sumTo}
 use Rattle.float_laws.proofs.Unsigned.{unsigned, own-unsigned, unsigned-own, mul-unsigned, div-unsigned, sum-unsigned, le-flip}
 use Rattle.float_laws.proofs.Logic.{yes}
 use Rattle.float_laws.specs.Literal.{five, seven}
+use Rattle.list_laws.specs.ListOf.{listOf}
+use Rattle.list_laws.proofs.ListOf.{length-listOf}
 use Rattle.list_laws.specs.Some.{someBelow}
 use Rattle.list_laws.proofs.Some.{some-none, some-or}
 use Rattle.pulse_search.specs.declared.SearchRecord.{SearchRecord}
-use Rattle.pulse_search.specs.Pulse.{start, totalTo}
-use Rattle.projection.specs.Projection.{factorOf, productAt, projectedOf, termsOf, withTerms, none, joinedTo, someNotFinite, someSeven, totalOverSix, zeros, unless, projection, Absolutes, AllBelowSeven, begunOf}
+use Rattle.pulse_search.specs.Pulse.{Search, sumOver, totalTo}
+use Rattle.projection.specs.Projection.{projectionFactor, productAt, projectedOf, termsOf, withTerms, none, joinedTo, someNotFinite, someSeven, totalOverSix, zeros, whole, nothing, projection, Absolutes, AllBelowSeven, begunOf}
 use Rattle.projection.specs.declared.Start.{Start}
 
 -- ---- no product has a minus sign
@@ -28,15 +30,15 @@ five-unsigned : T (unsigned five)
 unfolding ofBits unsigned
 five-unsigned = tt
 
-factor-unsigned : (a : List Float) → Absolutes a → T (unsigned (factorOf a))
-unfolding factorOf
+factor-unsigned : (a : List Float) → Absolutes a → T (unsigned (projectionFactor a))
+unfolding projectionFactor
 factor-unsigned a h =
     div-unsigned binary32 five (sumTo (λ n. getD a n nan) 16) five-unsigned
     (sum-unsigned (λ n. getD a n nan) 16 (λ n l. own-unsigned (getD a n nan) (h n l)) 16 (le-refl 16))
 
 product-unsigned : (a : List Float) → Absolutes a → (n : ℕ) → n < 16 → T (unsigned (productAt a n))
 unfolding productAt
-product-unsigned a h n l = mul-unsigned binary32 (getD a n nan) (factorOf a) (own-unsigned (getD a n nan) (h n l)) (factor-unsigned a h)
+product-unsigned a h n l = mul-unsigned binary32 (getD a n nan) (projectionFactor a) (own-unsigned (getD a n nan) (h n l)) (factor-unsigned a h)
 
 pub product-own : (a : List Float) → Absolutes a → (n : ℕ) → n < 16 → absOf (productAt a n) ≡ productAt a n
 product-own a h n l = unsigned-own (productAt a n) (product-unsigned a h n l)
@@ -76,23 +78,38 @@ unfolding tooLarge
 all-below a h e n l = yes (not-false (lt (productAt a n) seven) (some-none 16 (tooLarge a) (too-large-is a h ∙ e) n l))
 
 -- ---- the three outcomes
-pub lost-large : (a : List Float) → someNotFinite a || someSeven a ≡ true → start zeros none ≡ projection a
+pub lost-large : (a : List Float) → someNotFinite a || someSeven a ≡ true → nothing ≡ projection a
 unfolding projection
-lost-large a e = sym (ap (λ (b : Bool). unless (b || totalOverSix a) (start (projectedOf a) (joinedTo a (projectedOf a) 16)) (start zeros none)) e)
+lost-large a e = sym (ap (λ (b : Bool). cond (b || totalOverSix a) nothing (whole a)) e)
 
-pub lost-total : (a : List Float) → someNotFinite a || someSeven a ≡ false → 6 < totalTo (projectedOf a) 16 → start zeros none ≡ projection a
+pub lost-total : (a : List Float) → someNotFinite a || someSeven a ≡ false → 6 < totalTo (projectedOf a) 16 → nothing ≡ projection a
 unfolding projection totalOverSix
-lost-total a e h =
-    sym
-    (ap (λ (b : Bool). unless (b || totalOverSix a) (start (projectedOf a) (joinedTo a (projectedOf a) 16)) (start zeros none)) e
-    ∙ ap (λ (b : Bool). unless b (start (projectedOf a) (joinedTo a (projectedOf a) 16)) (start zeros none)) (lt-ltb 6 (totalTo (projectedOf a) 16) h))
+lost-total a e h = rw (e, lt-ltb 6 (totalTo (projectedOf a) 16) h)
 
-pub kept-whole : (a : List Float) → someNotFinite a || someSeven a ≡ false → totalTo (projectedOf a) 16 ≤ 6 → start (projectedOf a) (joinedTo a (projectedOf a) 16) ≡ projection a
+pub kept-whole : (a : List Float) → someNotFinite a || someSeven a ≡ false → totalTo (projectedOf a) 16 ≤ 6 → whole a ≡ projection a
 unfolding projection totalOverSix
-kept-whole a e h =
-    sym
-    (ap (λ (b : Bool). unless (b || totalOverSix a) (start (projectedOf a) (joinedTo a (projectedOf a) 16)) (start zeros none)) e
-    ∙ ap (λ (b : Bool). unless b (start (projectedOf a) (joinedTo a (projectedOf a) 16)) (start zeros none)) (le-ltb 6 (totalTo (projectedOf a) 16) h))
+kept-whole a e h = rw (e, le-ltb 6 (totalTo (projectedOf a) 16) h)
+
+-- What holds of nothing, and of the projected pulses where they are at most six, holds of the projection.
+pub by-outcome : (P : Search → Type 0) (a : List Float) → (totalTo (projectedOf a) 16 ≤ 6 → P (whole a)) → P nothing → P (projection a)
+unfolding projection totalOverSix
+by-outcome P a f g = by (someNotFinite a || someSeven a) (ltb 6 (totalTo (projectedOf a) 16)) refl
+  where
+    by : (b t : Bool) → ltb 6 (totalTo (projectedOf a) 16) ≡ t → P (cond (b || t) nothing (whole a))
+    by true t e = g
+    by false true e = g
+    by false false e = f (ltb-false 6 (totalTo (projectedOf a) 16) e)
+
+pub projection-length : (a : List Float) → length (projection a .pulses) ≡ 16
+unfolding projectedOf
+projection-length a = by-outcome (λ s. length (s .pulses) ≡ 16) a (λ h. length-listOf 16 _) (length-listOf 16 (λ n. 0))
+
+pub zeros-total : totalTo zeros 16 ≡ 0
+unfolding sumOver listOf
+zeros-total = refl
+
+pub projection-total : (a : List Float) → totalTo (projection a .pulses) 16 ≤ 6
+projection-total a = by-outcome (λ s. totalTo (s .pulses) 16 ≤ 6) a (λ h. h) (le-trans (le-of-eq zeros-total) (lit≤ tt))
 
 -- ---- a place's terms
 pub terms-zero : (op : Float → Float → Float) (r : SearchRecord) (w : ℕ) (x : Float) → w ≡ 0 → r ≡ withTerms op r w x
@@ -107,7 +124,7 @@ terms-some op r zero x h = absurd (h refl)
 terms-some op r (suc w) x h = refl
 
 -- ---- the code's tests, in its words
-module _ (a : List Float) (f : Float) (e : f ≡ factorOf a) where
+module _ (a : List Float) (f : Float) (e : f ≡ projectionFactor a) where
   same-product : (n : ℕ) → mul binary32 (getD a n nan) f ≡ productAt a n
   unfolding productAt
   same-product n = ap (λ (g : Float). mul binary32 (getD a n nan) g) e
@@ -126,8 +143,8 @@ module _ (a : List Float) (f : Float) (e : f ≡ factorOf a) where
   pub floor-gives : (n w : ℕ) → w ≡ floorOf (mul binary32 (getD a n nan) f) → w ≡ floorOf (productAt a n)
   floor-gives n w h = h ∙ ap floorOf (same-product n)
 
-pub factor-is : (a : List Float) (s : Float) → s ≡ sumTo (λ n. getD a n nan) 16 → div binary32 five s ≡ factorOf a
-unfolding factorOf
+pub factor-is : (a : List Float) (s : Float) → s ≡ sumTo (λ n. getD a n nan) 16 → div binary32 five s ≡ projectionFactor a
+unfolding projectionFactor
 factor-is a s e = ap (div binary32 five) e
 
 -- what the code answers where nothing is dropped

@@ -1,6 +1,6 @@
 -- Shape 3's start: the projection, and when it is dropped. Definitions only.
 use mathlib.Core.Path.{_≡_}
-use mathlib.Core.Bool.{Bool, true, false, not, _||_}
+use mathlib.Core.Bool.{Bool, not, _||_, cond}
 use mathlib.Core.List.{List}
 use Prim.Native.Nat.{ℕ, zero, suc, _<_}
 use lib.Dec.{T, ltb}
@@ -23,11 +23,11 @@ abbrev pub Absolutes : List Float → Type 0
 Absolutes a = (n : ℕ) → n < 16 → absOf (getD a n nan) ≡ getD a n nan
 
 -- project each a by (5 / sum of a)
-unfoldable pub factorOf : List Float → Float
-factorOf a = div binary32 five (sumTo (λ n. getD a n nan) 16)
+unfoldable pub projectionFactor : List Float → Float
+projectionFactor a = div binary32 five (sumTo (λ n. getD a n nan) 16)
 
 unfoldable pub productAt : List Float → ℕ → Float
-productAt a n = mul binary32 (getD a n nan) (factorOf a)
+productAt a n = mul binary32 (getD a n nan) (projectionFactor a)
 
 -- rounded down
 unfoldable pub projectedOf : List Float → List ℕ
@@ -75,16 +75,20 @@ AllBelowSeven a = (n : ℕ) → n < 16 → T (lt (productAt a n) seven)
 abbrev pub zeros : List ℕ
 zeros = listOf 16 (λ n. 0)
 
-abbrev pub unless : Bool → Search → Search → Search
-unless true s d = d
-unless false s d = s
+-- each of the three drops the projection
+abbrev pub isDropped : List Float → Bool
+isDropped a = (someNotFinite a || someSeven a) || totalOverSix a
 
--- drops the projection: no pulses, correlation and energy 0
+-- the projected pulses with their pair
+abbrev pub whole : List Float → Search
+whole a = start (projectedOf a) (joinedTo a (projectedOf a) 16)
+
+-- dropped: no pulses, correlation and energy 0
+abbrev pub nothing : Search
+nothing = start zeros none
+
 unfoldable pub projection : List Float → Search
-projection a =
-    unless ((someNotFinite a || someSeven a) || totalOverSix a)
-    (start (projectedOf a) (joinedTo a (projectedOf a) 16))
-    (start zeros none)
+projection a = cond (isDropped a) nothing (whole a)
 
 -- as the code holds it: the pulses, how many there are, and their pair
 abbrev pub begunOf : Search → Start

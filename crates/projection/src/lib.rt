@@ -10,8 +10,8 @@ ghost use Rattle.float_laws.specs.Absolute.{absOf};
 ghost use Rattle.float_laws.specs.Floor.{floorOf};
 ghost use Rattle.float_laws.specs.Running.{sumTo};
 ghost use Rattle.float_laws.specs.Literal.{seven};
-ghost use Rattle.pulse_search.specs.Pulse.{start, totalTo};
-ghost use Rattle.projection.specs.Projection.{factorOf, projectedOf, joined, joinedTo, someNotFinite, someSeven, zeros, none, projection, begunOf, Absolutes, AllBelowSeven};
+ghost use Rattle.pulse_search.specs.Pulse.{totalTo};
+ghost use Rattle.projection.specs.Projection.{projectionFactor, projectedOf, joined, joinedTo, someNotFinite, someSeven, nothing, projection, begunOf, Absolutes, AllBelowSeven};
 use pulse_search::SearchRecord;
 
 // The sum of the absolute values, from 0.0.
@@ -29,7 +29,7 @@ fn sum(abs_x: &[f32; 16]) -> f32
 
 // A product that isn't finite or is 7 or more: one that is not below 7.0, as no product is below zero.
 fn some_too_large(abs_x: &[f32; 16], factor: f32) -> bool
-    requires { ⌜ Absolutes (now «abs_x») × (factor ≡ factorOf (now «abs_x»)) ⌝ }
+    requires { ⌜ Absolutes (now «abs_x») × (factor ≡ projectionFactor (now «abs_x»)) ⌝ }
     ensures { λ r. ⌜ r ≡ someNotFinite (now («abs_x» .entry)) || someSeven (now («abs_x» .entry)) ⌝ }
 {
     let mut found = false;
@@ -71,7 +71,7 @@ fn floor(p: f32) -> u8
 
 // Each absolute value times the factor, rounded down.
 fn projected(abs_x: &[f32; 16], factor: f32) -> [u8; 16]
-    requires { ⌜ Absolutes (now «abs_x») × (factor ≡ factorOf (now «abs_x»)) × AllBelowSeven (now «abs_x») ⌝ }
+    requires { ⌜ Absolutes (now «abs_x») × (factor ≡ projectionFactor (now «abs_x»)) × AllBelowSeven (now «abs_x») ⌝ }
     ensures { λ y. ⌜ y ≡ projectedOf (now («abs_x» .entry)) ⌝ }
 {
     let mut y = [0u8; 16];
@@ -143,7 +143,7 @@ pub struct Start {
 
 // A dropped projection: no pulses, correlation and energy 0.
 fn nothing() -> Start
-    ensures { λ s. ⌜ s ≡ begunOf (start zeros none) ⌝ }
+    ensures { λ s. ⌜ s ≡ begunOf nothing ⌝ }
 {
     Start {
         y: [0u8; 16],

@@ -1,32 +1,21 @@
--- A place up to the last, and how many places pass a test. Assumes nothing.
+-- How many places pass a test. Assumes nothing.
 use mathlib.Core.Path.{_≡_, refl, sym, ap, _∙_, subst}
 use mathlib.Core.Logic.{inl, inr}
-use mathlib.Core.Bool.{Bool, true, false}
+use mathlib.Core.Bool.{Bool, true, false, cond}
 use Prim.Native.Nat.{ℕ, zero, suc, _+_, _≤_, _<_}
 use native.Mathlib.Nat.{le-trans, le-of-suc-le-suc, eq-or-lt-of-le, not-suc-le-zero}
 use native.Mathlib.Numerals.{add-one}
 use native.Mathlib.Omega.{arith}
 use lib.Dec.{T}
-use lib.Ieee.{Float, binary32, ofBits}
-use Rattle.pulse_guess.specs.Lanes.{upToLast, oneIf, countTo}
-
-pub kept : (b : Bool) (x : Float) → b ≡ true → x ≡ upToLast b x
-unfolding upToLast
-kept true x e = refl
-kept false x e = absurd (subst T (sym e) tt)
-
-pub left-out : (b : Bool) (x : Float) → b ≡ false → ofBits binary32 0 ≡ upToLast b x
-unfolding upToLast
-left-out true x e = absurd (subst T e tt)
-left-out false x e = refl
+use Rattle.pulse_guess.specs.Lanes.{countTo}
 
 pub count-yes : (f : ℕ → Bool) (n c : ℕ) → c ≡ countTo f n → f n ≡ true → c + 1 ≡ countTo f (n + 1)
 unfolding countTo
-count-yes f n c e h = rw (add-one n) (ap (λ (k : ℕ). k + 1) e ∙ sym (ap (λ (b : Bool). countTo f n + oneIf b) h))
+count-yes f n c e h = rw (add-one n) (ap (λ (k : ℕ). k + 1) e ∙ sym (ap (λ (b : Bool). countTo f n + cond b 1 0) h))
 
 pub count-no : (f : ℕ → Bool) (n c : ℕ) → c ≡ countTo f n → f n ≡ false → c ≡ countTo f (n + 1)
 unfolding countTo
-count-no f n c e h = rw (add-one n) (e ∙ plus (countTo f n) ∙ sym (ap (λ (b : Bool). countTo f n + oneIf b) h))
+count-no f n c e h = rw (add-one n) (e ∙ plus (countTo f n) ∙ sym (ap (λ (b : Bool). countTo f n + cond b 1 0) h))
   where
     plus : (a : ℕ) → a ≡ a + 0
     plus a = omega arith
@@ -37,8 +26,8 @@ unfolding countTo
 counted f zero k h t = absurd (not-suc-le-zero h)
 counted f (suc n) k h t =
     elim (eq-or-lt-of-le (le-of-suc-le-suc h)) [
-      | inl e ↦ subst (λ (b : Bool). 1 ≤ countTo f n + oneIf b) (sym (subst (λ (j : ℕ). f j ≡ true) e t)) (last (countTo f n))
-      | inr l ↦ le-trans (counted f n k l t) (more (countTo f n) (oneIf (f n)))
+      | inl e ↦ subst (λ (b : Bool). 1 ≤ countTo f n + cond b 1 0) (sym (subst (λ (j : ℕ). f j ≡ true) e t)) (last (countTo f n))
+      | inr l ↦ le-trans (counted f n k l t) (more (countTo f n) (cond (f n) 1 0))
     ]
   where
     last : (a : ℕ) → 1 ≤ a + 1
@@ -54,9 +43,9 @@ two-counted f zero g k l h s t = absurd (not-suc-le-zero h)
 two-counted f (suc n) g k l h s t =
     elim (eq-or-lt-of-le (le-of-suc-le-suc h)) [
       | inl e ↦
-          subst (λ (b : Bool). 2 ≤ countTo f n + oneIf b) (sym (subst (λ (j : ℕ). f j ≡ true) e s))
+          subst (λ (b : Bool). 2 ≤ countTo f n + cond b 1 0) (sym (subst (λ (j : ℕ). f j ≡ true) e s))
           (last (countTo f n) (counted f n k (subst (λ (j : ℕ). k < j) e l) t))
-      | inr i ↦ le-trans (two-counted f n g k l i s t) (more (countTo f n) (oneIf (f n)))
+      | inr i ↦ le-trans (two-counted f n g k l i s t) (more (countTo f n) (cond (f n) 1 0))
     ]
   where
     last : (a : ℕ) → 1 ≤ a → 2 ≤ a + 1

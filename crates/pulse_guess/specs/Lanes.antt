@@ -1,25 +1,21 @@
 -- What the quick way to the best place computes and compares, before it hands over to the scan. Definitions only.
-use mathlib.Core.Bool.{Bool, true, false, not}
+use mathlib.Core.Bool.{Bool, not, cond}
 use mathlib.Core.List.{List}
 use Prim.Native.Nat.{ℕ, zero, suc, _+_}
 use lib.Dec.{leb}
 use lib.IntN.{pos}
 use lib.ListN.{getD}
-use lib.Ieee.{Float, nan, binary32, ofBits, ofInt, add, mul, lt}
+use lib.Ieee.{Float, nan, binary32, ofInt, add, mul, lt}
 use Rattle.list_laws.specs.ListOf.{listOf}
-use Rattle.float_laws.specs.Literal.{one, two, squared}
+use Rattle.float_laws.specs.Literal.{nought, one, two, squared}
 
--- the absolute value of a place up to last, and zero past it
-unfoldable pub upToLast : Bool → Float → Float
-upToLast true x = x
-upToLast false x = ofBits binary32 0
-
+-- the absolute value of each place up to last, and zero past it
 unfoldable pub firstOf : List Float → ℕ → List Float
-firstOf a last = listOf 16 (λ n. upToLast (leb n last) (getD a n nan))
+firstOf a last = listOf 16 (λ n. cond (leb n last) (getD a n nan) nought)
 
 -- c·c of each place
-unfoldable pub squaresOf : List Float → Float → List Float
-squaresOf a correlation = listOf 16 (λ n. squared (add binary32 correlation (getD a n nan)))
+unfoldable pub squaredLanes : List Float → Float → List Float
+squaredLanes a correlation = listOf 16 (λ n. squared (add binary32 correlation (getD a n nan)))
 
 -- a place's pulses as a float
 abbrev pub amount : List ℕ → ℕ → Float
@@ -33,11 +29,7 @@ energiesOf y energy = listOf 16 (λ n. add binary32 (add binary32 energy (mul bi
 unfoldable pub unbeatenBy : List Float → List Float → ℕ → ℕ → Bool
 unbeatenBy c e g n = not (lt (mul binary32 (getD c n nan) (getD e g nan)) (mul binary32 (getD c g nan) (getD e n nan)))
 
-abbrev pub oneIf : Bool → ℕ
-oneIf true = 1
-oneIf false = 0
-
 -- how many of the first n numbers pass a test
 unfoldable pub countTo : (ℕ → Bool) → ℕ → ℕ
 countTo f zero = 0
-countTo f (suc n) = countTo f n + oneIf (f n)
+countTo f (suc n) = countTo f n + cond (f n) 1 0

@@ -1,12 +1,15 @@
 // A quick way to the best place: a guess by the quotients c·c / e, and a test that the guess strictly beats every other
 // place. Then the scan takes it too; where the test fails, the caller scans. Each loop is one over sixteen lanes.
 ghost use mathlib.Core.Path.{_≡_};
+ghost use mathlib.Core.Bool.{cond};
 ghost use Prim.Native.Nat.{_<_, _≤_};
 ghost use lib.Dec.{leb};
-ghost use Rattle.pulse_guess.specs.Lanes.{upToLast, firstOf, squaresOf, energiesOf, unbeatenBy, countTo};
+ghost use Rattle.float_laws.specs.Literal.{nought};
+ghost use Rattle.pulse_guess.specs.Lanes.{firstOf, squaredLanes, energiesOf, unbeatenBy, countTo};
 
+// The value of a place up to last, and zero past it.
 fn up_to_last(x: f32, n: usize, last: usize) -> f32
-    ensures { λ r. ⌜ r ≡ upToLast (leb n last) x ⌝ }
+    ensures { λ r. ⌜ r ≡ cond (leb n last) x nought ⌝ }
 {
     if n <= last {
         return x;
@@ -29,7 +32,7 @@ pub fn first_places(abs_x: &[f32; 16], last: usize) -> [f32; 16]
 
 // c·c of each place.
 pub fn squares(x: &[f32; 16], correlation: f32) -> [f32; 16]
-    ensures { λ r. ⌜ r ≡ squaresOf (now (x .entry)) correlation ⌝ }
+    ensures { λ r. ⌜ r ≡ squaredLanes (now (x .entry)) correlation ⌝ }
 {
     let mut c = [0.0f32; 16];
     let mut n = 0usize;

@@ -13,7 +13,7 @@ use Rattle.float_laws.proofs.Whole.{whole-add, whole-mul, whole-le}
 use Rattle.float_laws.specs.Literal.{one, two}
 use Rattle.pulse_search.specs.Pulse.{pairAt, bestTo, Search, start, onePulse, more, totalTo, squareTo}
 use Rattle.pulse_guess.specs.Lanes.{amount}
-use Rattle.pulse_search.specs.Claims.{Belongs, TriedBelong, Held, RecordHeld, placeOf, grown, orderedSum, RecordOrdered}
+use Rattle.pulse_search.specs.Claims.{Belongs, TriedBelong, Held, RecordHeld, pulsePlace, grown, orderedSum, RecordOrdered}
 use Rattle.pulse_search.proofs.Sums.{place-le, total-one, square-more, square-low, square-high}
 use Rattle.pulse_search.proofs.Laws.{best-le, more-suc, more-zero, more-length, more-total}
 
@@ -104,7 +104,7 @@ pub record-ordered : RecordOrdered
 unfolding more onePulse pairAt grown orderedSum
 record-ordered a last zero s = record { pulses = refl; correlation = refl }
 record-ordered a last (suc k) s =
-    let p = placeOf a last s k in
+    let p = pulsePlace a last s k in
     let o = record-ordered a last k s in
     record {
       pulses = ap (λ (y : List ℕ). set y p (getD y p 0 + 1)) (o .pulses);

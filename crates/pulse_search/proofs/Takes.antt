@@ -13,12 +13,11 @@ use lib.Ieee.{Float, nan, binary32, add, mul, lt}
 use Rattle.float_laws.proofs.Logic.{yes}
 use Rattle.float_laws.proofs.Scan.{scan-takes}
 use Rattle.float_laws.proofs.Order.{lt-asym, lt-irrefl}
-use Rattle.float_laws.specs.Literal.{one, two, squared}
+use Rattle.float_laws.specs.Literal.{nought, one, two, squared}
 use Rattle.list_laws.proofs.ListOf.{getD-listOf}
 use Rattle.pulse_search.specs.declared.SearchRecord.{SearchRecord}
 use Rattle.pulse_search.specs.Pulse.{pairAt, replaces, bestTo}
-use Rattle.pulse_guess.specs.Lanes.{amount}
-use Rattle.pulse_guess.specs.Lanes.{upToLast, firstOf, squaresOf, energiesOf, unbeatenBy, countTo}
+use Rattle.pulse_guess.specs.Lanes.{amount, firstOf, squaredLanes, energiesOf, unbeatenBy, countTo}
 use Rattle.pulse_search.proofs.Laws.{best-le}
 use Rattle.pulse_guess.proofs.Counted.{only-one}
 
@@ -38,19 +37,19 @@ module _ (a : List Float) (y : List ℕ) (r : SearchRecord) (last g : ℕ) (w : 
 
 -- ---- what the lanes hold
 module _ (a : List Float) (y : List ℕ) (r : SearchRecord) (last : ℕ) (l : last < 16) where
-  lane-square : (n : ℕ) → n ≤ last → getD (squaresOf (firstOf a last) (r .correlation)) n nan ≡ squared (pairAt a y r n .correlation)
-  unfolding squaresOf firstOf pairAt upToLast
+  lane-square : (n : ℕ) → n ≤ last → getD (squaredLanes (firstOf a last) (r .correlation)) n nan ≡ squared (pairAt a y r n .correlation)
+  unfolding squaredLanes firstOf pairAt
   lane-square n h =
       let i : n < 16 = omega arith in
       getD-listOf 16 (λ n. squared (add binary32 (r .correlation) (getD (firstOf a last) n nan))) nan n i
-      ∙ ap (λ (x : Float). squared (add binary32 (r .correlation) x)) (getD-listOf 16 (λ n. upToLast (leb n last) (getD a n nan)) nan n i ∙ ap (λ (b : Bool). upToLast b (getD a n nan)) (le-leb n last h))
+      ∙ ap (λ (x : Float). squared (add binary32 (r .correlation) x)) (getD-listOf 16 (λ n. cond (leb n last) (getD a n nan) nought) nan n i ∙ ap (λ (b : Bool). cond b (getD a n nan) nought) (le-leb n last h))
 
   lane-energy : (n : ℕ) → n ≤ last → getD (energiesOf y (r .energy)) n nan ≡ pairAt a y r n .energy
   unfolding energiesOf pairAt
   lane-energy n h = getD-listOf 16 (λ n. add binary32 (add binary32 (r .energy) (mul binary32 two (amount y n))) one) nan n (omega arith)
 
   -- one unbeaten place is the guess itself
-  pub guess-is : (low c e : List Float) (g k : ℕ) → low ≡ firstOf a last → c ≡ squaresOf low (r .correlation) → e ≡ energiesOf y (r .energy) → g ≤ last → k ≡ countTo (unbeatenBy c e g) 16 → k ≡ 1 → g ≡ bestTo a y r last
+  pub guess-is : (low c e : List Float) (g k : ℕ) → low ≡ firstOf a last → c ≡ squaredLanes low (r .correlation) → e ≡ energiesOf y (r .energy) → g ≤ last → k ≡ countTo (unbeatenBy c e g) 16 → k ≡ 1 → g ≡ bestTo a y r last
   unfolding unbeatenBy replaces
   guess-is low c e g k o p q h u v = takes a y r last g wins h
     where

@@ -33,8 +33,8 @@ abbrev pub RecordHeld : Type 0
 RecordHeld = (a : List Float) (last k : ℕ) (s : Search) → last < 16 → length (s .pulses) ≡ 16 → totalTo (s .pulses) 16 + k ≤ 255 → Belongs s → Held a last k s
 
 -- the place that the search puts pulse i + 1 at
-abbrev pub placeOf : List Float → ℕ → Search → ℕ → ℕ
-placeOf a last s i = bestTo a (more a last i s .pulses) (more a last i s .pair) last
+abbrev pub pulsePlace : List Float → ℕ → Search → ℕ → ℕ
+pulsePlace a last s i = bestTo a (more a last i s .pulses) (more a last i s .pair) last
 
 -- y with one pulse more at each of the first k places p, one after another
 unfoldable pub grown : List ℕ → (ℕ → ℕ) → ℕ → List ℕ
@@ -48,8 +48,8 @@ orderedSum a c p (suc k) = add binary32 (orderedSum a c p k) (getD a (p k) nan)
 
 -- k single pulses go to so many places, and the correlation grows by the a of these very places, in this order
 pub record Ordered (a : List Float) (last k : ℕ) (s : Search) : Type 0 where
-  pub pulses : more a last k s .pulses ≡ grown (s .pulses) (placeOf a last s) k
-  pub correlation : more a last k s .pair .correlation ≡ orderedSum a (s .pair .correlation) (placeOf a last s) k
+  pub pulses : more a last k s .pulses ≡ grown (s .pulses) (pulsePlace a last s) k
+  pub correlation : more a last k s .pair .correlation ≡ orderedSum a (s .pair .correlation) (pulsePlace a last s) k
 
 -- whatever the search starts from
 abbrev pub RecordOrdered : Type 0

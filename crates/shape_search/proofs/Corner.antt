@@ -7,10 +7,10 @@ use Rattle.float_laws.specs.Running.{sumTo}
 use Rattle.list_laws.specs.ListOf.{listOf}
 use Rattle.list_laws.specs.Some.{someBelow}
 use Rattle.pulse_search.specs.Pulse.{pairAt, replaces, bestTo, onePulse, more, sumOver}
-use Rattle.projection.specs.Projection.{factorOf, productAt, projectedOf, termsOf, withTerms, joinedTo, someNotFinite, someSeven, totalOverSix, projection}
+use Rattle.projection.specs.Projection.{projectionFactor, productAt, projectedOf, termsOf, withTerms, joinedTo, someNotFinite, someSeven, totalOverSix, projection}
 use Rattle.shape_search.specs.Shape.{lowOf, droppedTo, lowered, shape3, shape2}
 use Rattle.shape_search.specs.Claims.{RoundingLeft}
 
 pub rounding-left : RoundingLeft
-unfolding ofInt ofBits add sub mul div lt le floorOf sumTo listOf someBelow pairAt replaces bestTo onePulse more sumOver factorOf productAt projectedOf termsOf withTerms joinedTo someNotFinite someSeven totalOverSix projection lowOf droppedTo lowered shape3 shape2 scanTo
+unfolding ofInt ofBits add sub mul div lt le floorOf sumTo listOf someBelow pairAt replaces bestTo onePulse more sumOver projectionFactor productAt projectedOf termsOf withTerms joinedTo someNotFinite someSeven totalOverSix projection lowOf droppedTo lowered shape3 shape2 scanTo
 rounding-left = refl

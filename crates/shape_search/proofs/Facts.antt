@@ -15,33 +15,9 @@ use Rattle.list_laws.proofs.ListOf.{length-listOf, getD-listOf}
 use Rattle.pulse_search.specs.Pulse.{Search, start, sumOver, totalTo, squareTo, missing, upTo}
 use Rattle.pulse_search.proofs.Sums.{sum-same, sum-past, sum-set, sum-grow, sum-flat}
 use Rattle.pulse_search.proofs.Laws.{more-length, more-total, more-past}
-use Rattle.projection.specs.Projection.{projectedOf, none, joinedTo, someNotFinite, someSeven, totalOverSix, zeros, unless, projection}
+use Rattle.projection.specs.Projection.{projection}
+use Rattle.projection.proofs.Projection.{projection-length, projection-total}
 use Rattle.shape_search.specs.Shape.{shape3, shape2, lowOf, lowered, shape1, largestTo, shape0}
-
--- ---- the projection has at most six
-pub unless-both : (P : Search → Type 0) (b : Bool) (s d : Search) → (T (not b) → P s) → P d → P (unless b s d)
-unless-both P true s d f g = g
-unless-both P false s d f g = f tt
-
-pub projection-length : (a : List Float) → length (projection a .pulses) ≡ 16
-unfolding projection projectedOf
-projection-length a =
-    unless-both (λ r. length (r .pulses) ≡ 16) ((someNotFinite a || someSeven a) || totalOverSix a) (start (projectedOf a) (joinedTo a (projectedOf a) 16)) (start zeros none)
-    (λ t. length-listOf 16 _) (length-listOf 16 (λ n. 0))
-
-pub zeros-total : totalTo zeros 16 ≡ 0
-unfolding sumOver listOf
-zeros-total = refl
-
-pub or-right-not : (a b : Bool) → T (not (a || b)) → T (not b)
-or-right-not true b t = absurd t
-or-right-not false b t = t
-
-pub projection-total : (a : List Float) → totalTo (projection a .pulses) 16 ≤ 6
-unfolding projection totalOverSix
-projection-total a =
-    unless-both (λ r. totalTo (r .pulses) 16 ≤ 6) ((someNotFinite a || someSeven a) || totalOverSix a) (start (projectedOf a) (joinedTo a (projectedOf a) 16)) (start zeros none)
-    (λ t. nltb→le 6 (totalTo (projectedOf a) 16) (or-right-not (someNotFinite a || someSeven a) (ltb 6 (totalTo (projectedOf a) 16)) t)) (le-trans (le-of-eq zeros-total) (lit≤ tt))
 
 pub length-lowOf : (y : List ℕ) → length (lowOf y) ≡ 16
 unfolding lowOf

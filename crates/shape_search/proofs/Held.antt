@@ -17,10 +17,11 @@ use Rattle.pulse_search.specs.Claims.{Belongs, Held}
 use Rattle.pulse_search.proofs.Sums.{sum-suc, sum-grow, place-le}
 use Rattle.pulse_search.proofs.Laws.{more-more}
 use Rattle.pulse_search.proofs.Held.{far, squares-few, belongs-of, record-held}
-use Rattle.projection.specs.Projection.{none, termsOf, withTerms, joined, joinedTo, projectedOf, someNotFinite, someSeven, totalOverSix, zeros, projection}
+use Rattle.projection.specs.Projection.{none, termsOf, withTerms, joined, joinedTo, projectedOf, whole, nothing, zeros, projection}
 use Rattle.shape_search.specs.Shape.{lowOf, dropped, droppedTo, lowered, shape3, shape2, shape1}
 use Rattle.shape_search.specs.Claims.{SearchesHeld, ShapesHeld, OneSearch}
-use Rattle.shape_search.proofs.Facts.{unless-both, or-right-not, zeros-total, projection-length, projection-total, three-length, three-total, two-total, low-length, low-all, low-sum-all}
+use Rattle.projection.proofs.Projection.{by-outcome, zeros-total, projection-length, projection-total}
+use Rattle.shape_search.proofs.Facts.{three-length, three-total, two-total, low-length, low-all, low-sum-all}
 
 -- ---- one place's energy, added and subtracted
 own-square : (w : ℕ) → w ≤ 255 → mul binary32 (ofInt binary32 (pos w)) (ofInt binary32 (pos w)) ≡ ofInt binary32 (pos (w * w))
@@ -67,15 +68,12 @@ unfolding sumOver listOf
 zeros-square = refl
 
 projection-belongs : (a : List Float) → Belongs (projection a)
-unfolding projection totalOverSix
 projection-belongs a =
-    let y = projectedOf a in
-    unless-both Belongs ((someNotFinite a || someSeven a) || totalOverSix a) (start y (joinedTo a y 16)) (start zeros none)
-    (λ t. let u = le-trans (nltb→le 6 (totalTo y 16) (or-right-not (someNotFinite a || someSeven a) (ltb 6 (totalTo y 16)) t)) (lit≤ tt) in belongs-of (start y (joinedTo a y 16)) u (projected-energy a y 16 u))
-    (belongs-of (start zeros none) (le-trans (le-of-eq zeros-total) (lit≤ tt)) (rw zeros-square nothing))
+    by-outcome Belongs a (λ h. let u = le-trans h (lit≤ tt) in belongs-of (whole a) u (projected-energy a (projectedOf a) 16 u))
+    (belongs-of nothing (le-trans (le-of-eq zeros-total) (lit≤ tt)) (rw zeros-square no-energy))
   where
-    nothing : none .energy ≡ ofInt binary32 (pos 0)
-    nothing = unfold ofBits ofInt in refl
+    no-energy : none .energy ≡ ofInt binary32 (pos 0)
+    no-energy = unfold ofBits ofInt in refl
 
 -- ---- and what is left of it without the places from 10 on
 left : (a : List Float) (y : List ℕ) (r : SearchRecord) → totalTo y 16 ≤ 255 → r .energy ≡ ofInt binary32 (pos (squareTo y 16))

@@ -22,10 +22,11 @@ use Rattle.pulse_search.specs.Claims.{Belongs, Held}
 use Rattle.pulse_search.proofs.Sums.{place-le, total-suc, total-one}
 use Rattle.pulse_search.proofs.Laws.{more-length, more-total, more-suc, more-zero, one-pair, best-le}
 use Rattle.pulse_search.proofs.Held.{far, squares-few}
-use Rattle.projection.specs.Projection.{none, zeros, projectedOf, termsOf, withTerms, joinedTo, someNotFinite, someSeven, totalOverSix, projection}
+use Rattle.projection.specs.Projection.{none, projectedOf, termsOf, withTerms, joinedTo, projection}
 use Rattle.shape_search.specs.Shape.{droppedTo, lowered, shape3, shape2}
 use Rattle.shape_search.specs.Claims.{Compares, SearchesFinite}
-use Rattle.shape_search.proofs.Facts.{unless-both, or-right-not, projection-length, projection-total, three-length, three-total, two-total, low-length, low-all}
+use Rattle.projection.proofs.Projection.{by-outcome, projection-length, projection-total}
+use Rattle.shape_search.proofs.Facts.{three-length, three-total, two-total, low-length, low-all}
 use Rattle.shape_search.proofs.Held.{searches-held}
 
 -- a correlation of at most 16384 for each of j pulses
@@ -150,12 +151,8 @@ module _ (a : List Float) (B : Bounded 16 16384 a) where
 
   -- ---- the correlations that the three searches start from: one for each pulse placed, and for each dropped
   projection-sized : Sized (projection a .pair .correlation) (totalTo (projection a .pulses) 16)
-  unfolding projection totalOverSix
   projection-sized =
-      let y = projectedOf a in
-      unless-both (λ s. Sized (s .pair .correlation) (totalTo (s .pulses) 16)) ((someNotFinite a || someSeven a) || totalOverSix a) (start y (joinedTo a y 16)) (start zeros none)
-      (λ t. joined-to y 16 (le-refl 16) (nltb→le 6 (totalTo y 16) (or-right-not (someNotFinite a || someSeven a) (ltb 6 (totalTo y 16)) t)))
-      (none-sized _)
+      by-outcome (λ s. Sized (s .pair .correlation) (totalTo (s .pulses) 16)) a (λ h. joined-to (projectedOf a) 16 (le-refl 16) h) (none-sized _)
 
   three-sized : Sized (shape3 a .pair .correlation) 6
   unfolding shape3

@@ -58,9 +58,9 @@ Compares a last k s =
     → T (finite (mul binary32 (squared (pairAt a (more a last i s .pulses) (more a last i s .pair) n .correlation)) (pairAt a (more a last i s .pulses) (more a last i s .pair) m .energy)))
 
 -- in the three searches
-abbrev pub Finite : List Float → Type 0
-Finite a = Each (Compares a) a
+abbrev pub ComparesFinite : List Float → Type 0
+ComparesFinite a = Each (Compares a) a
 
 -- no compared value is NaN or infinite
 abbrev pub SearchesFinite : Type 0
-SearchesFinite = (a : List Float) → Bounded 16 16384 a → Finite a
+SearchesFinite = (a : List Float) → Bounded 16 16384 a → ComparesFinite a

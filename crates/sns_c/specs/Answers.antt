@@ -60,8 +60,8 @@ pub record IsChecked (a : Checked) (r : CheckedCode) : Type 0 where
   pub value : r .value ≡ check.valueOf a
 
 -- the fields, handed over one by one
-abbrev pub fieldsOf : ℕ → ℕ → ℕ → ℕ → ℕ → ℕ → ℕ → ℕ → Fields
-fieldsOf low high shape gain signA signB indexA indexB =
+abbrev pub fieldsFrom : ℕ → ℕ → ℕ → ℕ → ℕ → ℕ → ℕ → ℕ → Fields
+fieldsFrom low high shape gain signA signB indexA indexB =
     record {
       «low_row» = low;
       «high_row» = high;

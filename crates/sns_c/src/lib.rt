@@ -19,7 +19,7 @@ ghost use Rattle.sns_interpolate.specs.Interpolate.{interpolateAnswer};
 ghost use Rattle.sns_shape.specs.Shape.{shapeAnswer};
 ghost use Rattle.sns_number.specs.Pack.{packAnswer};
 ghost use Rattle.sns_number.specs.Unpack.{unpackAnswer};
-ghost use Rattle.sns_c.specs.Answers.{IsCode, CodeSays, EncodedSays, IsPacked, IsChecked, fieldsOf};
+ghost use Rattle.sns_c.specs.Answers.{IsCode, CodeSays, EncodedSays, IsPacked, IsChecked, fieldsFrom};
 
 // What a call that fills a buffer answers; 0 and 0 where it is done.
 #[repr(C)]
@@ -111,7 +111,7 @@ pub extern "C" fn lc3_sns_decode(
     index_b: u32,
     factors: &mut [f32],
 ) -> Code
-    ensures { λ r. ⌜ CodeSays (decodeAnswer (fieldsOf «low_row» «high_row» shape gain «sign_a» «sign_b» «index_a» «index_b») (length (now (factors .entry)))) (fieldFactors (fieldsOf «low_row» «high_row» shape gain «sign_a» «sign_b» «index_a» «index_b»)) (now (factors .entry)) r (now (factors .exit)) ⌝ }
+    ensures { λ r. ⌜ CodeSays (decodeAnswer (fieldsFrom «low_row» «high_row» shape gain «sign_a» «sign_b» «index_a» «index_b») (length (now (factors .entry)))) (fieldFactors (fieldsFrom «low_row» «high_row» shape gain «sign_a» «sign_b» «index_a» «index_b»)) (now (factors .entry)) r (now (factors .exit)) ⌝ }
 {
     let fields = Fields {
         low_row: low_row,

@@ -2,16 +2,14 @@
 use mathlib.Core.List.{List}
 use Prim.Native.Nat.{ℕ, _+_}
 use lib.ListN.{getD}
-use lib.Ieee.{Float, nan, binary32, sub, mul}
+use lib.Ieee.{Float, nan, binary32, sub}
+use Rattle.float_laws.specs.Literal.{squared}
 use Rattle.float_laws.specs.Running.{sumTo}
 use Rattle.float_laws.specs.Scan.{leastTo}
 use Rattle.list_laws.specs.ListOf.{listOf}
 use Rattle.sns_tables.specs.Codebooks.{lfcbRows, hfcbRows, codeAt}
 use Rattle.sns_tables.specs.Codes.{codeOf}
 use Rattle.stage1.specs.declared.SnsStage1Result.{SnsStage1Result}
-
-abbrev pub squared : Float → Float
-squared e = mul binary32 e e
 
 -- for a row, add the squares of factor minus code over 8 places, from 0.0, ascending
 unfoldable pub distance : (ℕ → Float) → (ℕ → Float) → Float

@@ -6,9 +6,8 @@ use Prim.Native.Nat.{ℕ, _<_}
 use lib.Dec.{T}
 use lib.ListN.{getD}
 use lib.Ieee.{Float, nan, lt}
-use Rattle.float_laws.specs.Bounded.{Bounded}
-use Rattle.float_laws.specs.Kind.{finite}
-use Rattle.float_laws.proofs.Size.{within-finite}
+use Rattle.float_laws.specs.Bounded.{AllFinite, Bounded}
+use Rattle.float_laws.proofs.Size.{bounded-finite}
 use Rattle.frame_fields.proofs.Joint.{joint-within}
 use Rattle.shape_numbers.proofs.Claims.{numbers-indexed, pulses-again}
 use Rattle.pulse_length.proofs.Squares.{shaped-sixteen}
@@ -21,11 +20,11 @@ use Rattle.candidates.specs.Claims.{Comparable}
 use Rattle.candidates.proofs.Choices.{all-tried}
 use Rattle.candidates.proofs.Claims.{units, winner-first, winner-only}
 use Rattle.stage2.specs.Stage2.{signedFor, candidatesOf, choiceOf, selectedOf, resultOf, stage2Of}
-use Rattle.stage2.specs.Claims.{ChoiceFirst, ChoiceOnly, distortionWith, NoneBelow, Unpacks, JointTops, NothingNan}
+use Rattle.stage2.specs.Claims.{ChoiceFirst, ChoiceOnly, distortionWith, NoneBelow, Unpacks, JointTops, ResidualNoNan}
 use Rattle.stage2.proofs.Steps.{candidate-at}
 use Rattle.stage2.proofs.Signs.{signed-shaped}
 
-comparable : (t : List Float) → ((n : ℕ) → n < 16 → T (finite (getD t n nan))) → Comparable t (candidatesOf t)
+comparable : (t : List Float) → AllFinite 16 t → Comparable t (candidatesOf t)
 comparable t h = record { target = h; units = λ s l. subst (Bounded 16 1) (sym (candidate-at t s l)) (units (signedFor t s) (shaped-sixteen s (signedFor t s) (signed-shaped t s))) }
 
 pub choice-first : ChoiceFirst
@@ -58,8 +57,8 @@ joint-tops residual code =
     let s = selectedOf t in
     joint-within (s .«shape_j») (s .gind) _ (numbers-indexed (s .«shape_j») (signedFor t (s .«shape_j»)) (signed-shaped t (s .«shape_j»)))
 
-pub nothing-nan : NothingNan
-nothing-nan residual B =
+pub residual-no-nan : ResidualNoNan
+residual-no-nan residual B =
     let t = targetOf residual in
     let b = target-bounded residual B in
-    (searches-finite (absolutesOf t) (absolutes-bounded 16384 t b), comparable t (λ n l. within-finite (getD t n nan) 16384 1 (b n l)))
+    (searches-finite (absolutesOf t) (absolutes-bounded 16384 t b), comparable t (bounded-finite 16 16384 t b))

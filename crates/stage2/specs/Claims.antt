@@ -6,13 +6,12 @@ use Prim.Native.Nat.{ℕ, _≤_, _<_}
 use lib.Dec.{T}
 use lib.ListN.{getD}
 use lib.Ieee.{Float, nan, lt}
-use Rattle.float_laws.specs.Bounded.{Bounded}
-use Rattle.float_laws.specs.Kind.{finite}
+use Rattle.float_laws.specs.Bounded.{AllFinite, Bounded}
 use Rattle.float_laws.specs.Least.{FirstLeast}
 use Rattle.sns_tables.specs.Gains.{gainsOf, gainAt}
 use Rattle.shape_numbers.specs.Pulses.{Shaped, pulsesAt}
 use Rattle.stage2_target.specs.Target.{targetOf, absolutesOf}
-use Rattle.shape_search.specs.Claims.{Finite}
+use Rattle.shape_search.specs.Claims.{ComparesFinite}
 use Rattle.candidates.specs.Candidate.{distortionOf}
 use Rattle.candidates.specs.Scan.{choices, choiceAt, distortionAt}
 use Rattle.candidates.specs.Claims.{Comparable}
@@ -25,11 +24,11 @@ pub record FirstChoice (t : List Float) : Type 0 where
   pub first : FirstLeast (distortionAt t (candidatesOf t)) choices choice
 
 abbrev pub ChoiceFirst : Type 0
-ChoiceFirst = (t : List Float) → ((n : ℕ) → n < 16 → T (finite (getD t n nan))) → FirstChoice t
+ChoiceFirst = (t : List Float) → AllFinite 16 t → FirstChoice t
 
 -- and any choice that is first so is the one chosen
 abbrev pub ChoiceOnly : Type 0
-ChoiceOnly = (t : List Float) → ((n : ℕ) → n < 16 → T (finite (getD t n nan))) → (i : ℕ) → FirstLeast (distortionAt t (candidatesOf t)) choices i → choiceAt i ≡ choiceOf t
+ChoiceOnly = (t : List Float) → AllFinite 16 t → (i : ℕ) → FirstLeast (distortionAt t (candidatesOf t)) choices i → choiceAt i ≡ choiceOf t
 
 -- the computed distortion of a shape's candidate under one of the shape's gains
 abbrev pub distortionWith : List Float → ℕ → ℕ → Float
@@ -58,5 +57,5 @@ JointTops =
     (r .«shape_j» < 2 → r .«index_joint_j» ≤ 33460055) × (2 ≤ r .«shape_j» → r .«index_joint_j» ≤ 16708095)
 
 -- with residuals of at most 517 (factors of at most 512) no compared value is NaN: the searches compare finite numbers, and no distortion is NaN
-abbrev pub NothingNan : Type 0
-NothingNan = (residual : List Float) → Bounded 16 517 residual → let t = targetOf residual in Finite (absolutesOf t) × Comparable t (candidatesOf t)
+abbrev pub ResidualNoNan : Type 0
+ResidualNoNan = (residual : List Float) → Bounded 16 517 residual → let t = targetOf residual in ComparesFinite (absolutesOf t) × Comparable t (candidatesOf t)

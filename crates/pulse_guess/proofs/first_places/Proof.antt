@@ -1,4 +1,5 @@
 -- The loop fills the lanes from the first up.
+use mathlib.Core.Bool.{cond}
 use mathlib.Core.Path.{_≡_, refl}
 use Prim.Native.Nat.{_≤_, _-_}
 use native.Mathlib.Omega.{arith}
@@ -8,12 +9,13 @@ use lib.ListN.{getD}
 use lib.Ieee.{nan}
 use Rattle.list_laws.proofs.Fill.{over, over-none, over-more}
 use Rattle.list_laws.proofs.Full.{full}
-use Rattle.pulse_guess.specs.Lanes.{upToLast, firstOf}
+use Rattle.float_laws.specs.Literal.{nought}
+use Rattle.pulse_guess.specs.Lanes.{firstOf}
 use Rattle.pulse_guess.proofs.first_places.Statement.{statement}
 use Rattle.pulse_guess.proofs.first_places.Tie as tie
 
 abbrev Inv-loop : tie.InvT-loop
-Inv-loop abs-x last x₀ n₀ x n = (n ≤ 16) × (x ≡ over (λ n. upToLast (leb n last) (getD abs-x n nan)) n x₀)
+Inv-loop abs-x last x₀ n₀ x n = (n ≤ 16) × (x ≡ over (λ n. cond (leb n last) (getD abs-x n nan) nought) n x₀)
 
 abbrev μ-loop : tie.MeasureT-loop
 μ-loop abs-x last x₀ n₀ x n = 16 - n

@@ -8,7 +8,7 @@ use lib.Ieee.{nan, binary32, add}
 use Rattle.list_laws.proofs.Fill.{over, over-none, over-more}
 use Rattle.list_laws.proofs.Full.{full}
 use Rattle.float_laws.specs.Literal.{squared}
-use Rattle.pulse_guess.specs.Lanes.{squaresOf}
+use Rattle.pulse_guess.specs.Lanes.{squaredLanes}
 use Rattle.pulse_guess.proofs.squares.Statement.{statement}
 use Rattle.pulse_guess.proofs.squares.Tie as tie
 
@@ -43,7 +43,7 @@ loop-again : tie.Need-loop-again Inv-loop μ-loop
 loop-again c = (search needs, over-more _ _ _ _ _ (c .before .before .loop .inv .1) refl)
 
 returns : tie.Need-returns Inv-loop μ-loop
-unfolding squaresOf
+unfolding squaredLanes
 returns c = full _ 16 _ _ _ (c .before .loop .inv .1) (omega arith) refl
 
 pub squares-spec : {M : Type 1} → statement M

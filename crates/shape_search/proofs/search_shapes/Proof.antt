@@ -10,7 +10,8 @@ use Rattle.projection.specs.Projection.{projection}
 use Rattle.projection.specs.declared.Start.{Start}
 use Rattle.shape_search.specs.Shape.{shape3, shape2, lowered}
 use Rattle.shape_search.proofs.Shapes.{begun, on-three, on-two, on-low, on-one, room, four-are}
-use Rattle.shape_search.proofs.Facts.{projection-length, projection-total, three-length, three-total, low-length, low-total, low-all, largest-under}
+use Rattle.projection.proofs.Projection.{projection-length, projection-total}
+use Rattle.shape_search.proofs.Facts.{three-length, three-total, low-length, low-total, low-all, largest-under}
 use Rattle.shape_search.proofs.search_shapes.Statement.{statement}
 use Rattle.shape_search.proofs.search_shapes.Tie as tie
 

@@ -6,7 +6,8 @@ use lib.Ieee.{binary32, sub}
 use Rattle.float_laws.specs.Running.{sumTo}
 use Rattle.float_laws.proofs.Running.{sum-none, sum-more}
 use Rattle.sns_tables.specs.ByPlace.{turnedAt}
-use Rattle.stage1.specs.Stage1.{squared, half, distance}
+use Rattle.float_laws.specs.Literal.{squared}
+use Rattle.stage1.specs.Stage1.{half, distance}
 use borrow.Author.Needs.{needs}
 use Rattle.stage1.proofs.dmse.Statement.{statement}
 use Rattle.stage1.proofs.dmse.Tie as tie
