@@ -8,7 +8,7 @@ help:
 	@echo 'make staticlib the library for C and Rust: target/staticlib/libsns_c.a, with include/lc3_sns.h'
 	@echo 'make bindings  the library called from C and from bindings/rust (see tests/bindings.sh)'
 	@echo 'make compare   the port beside the Rust, bit for bit: encoder, numbering, decoder, shaping; and refusals by the table'
-	@echo 'make bench     encode, pack and unpack timed beside the Rust, in one run; BEFORE=COMMIT adds encode and unpack of that commit'
+	@echo 'make bench     encode, pack and unpack timed beside the Rust, then decode, interpolate and shape; BEFORE=COMMIT adds the calls of that commit'
 	@echo 'make format    lay out every Rattle and antt file'
 	@echo 'make tables    make the recorded tables anew from the Rust source (see tests/tables/record.sh)'
 	@echo 'make frames    make the recorded frames and answers anew from the Rust (see tests/frames/README.md)'
@@ -38,6 +38,7 @@ compare: kit
 bench: kit
 	bench/run.sh sns_c bench/quant.rs 'encode, scale 64'
 	bench/run.sh sns_c bench/numbering.rs 'unpack (10,10)' 'unpack (6,1)' 'unpack (16,8)' 'unpack (16,6)'
+	bench/run.sh sns_c bench/decoder.rs decode 'interpolate, 64 bands' 'shape, 48 kHz, 10 ms'
 
 staticlib: kit
 	rt staticlib sns_c
