@@ -1,9 +1,8 @@
-// The check of one factor, of a row of factors, and of a row of values that need only be finite. Public for the crates
-// above only; every result is pinned.
+// The check of one factor, and whether a value is finite. Public for the crates above only; every result is pinned.
 ghost use mathlib.Core.Path.{_≡_};
 ghost use lib.Dec.{T};
 ghost use Rattle.float_laws.specs.Kind.{finite};
-ghost use Rattle.factor.specs.Check.{factorLimit, checkedOf, firstRefused, firstNotFinite};
+ghost use Rattle.factor.specs.Check.{factorLimit, checkedOf};
 
 // The answer for one factor: the factor itself, the offending value, or nothing.
 pub enum Checked {
@@ -51,31 +50,8 @@ pub fn check_factor(x: f32) -> Checked
     check_against(x, factor_limit())
 }
 
-// What a row of factors is answered: all are taken, or the place of the first that is not, and why.
-pub enum Scanned {
-    Taken,
-    TooFar(usize),
-    NotFinite(usize),
-}
-
-// The first refused factor, by place.
-pub fn first_refused(factors: &[f32], limit: f32) -> Scanned
-    requires { ⌜ T (finite limit) ⌝ }
-    ensures { λ r. ⌜ r ≡ firstRefused limit (now (factors .entry)) ⌝ }
-{
-    let mut i = 0usize;
-    while i < factors.len() {
-        match check_against(factors[i], limit) {
-            Checked::Within(_) => {}
-            Checked::TooFar(_) => return Scanned::TooFar(i),
-            Checked::NotFinite => return Scanned::NotFinite(i),
-        }
-        i += 1;
-    }
-    Scanned::Taken
-}
-
-fn is_finite(x: f32) -> bool
+// A value that is neither NaN nor infinite.
+pub fn is_finite(x: f32) -> bool
     ensures { λ r. ⌜ r ≡ finite x ⌝ }
 {
     if x != x {
@@ -86,24 +62,4 @@ fn is_finite(x: f32) -> bool
         return false;
     }
     x != -infinity
-}
-
-// Where the first of a row stands that is looked for, if any does.
-pub enum Place {
-    Nowhere,
-    At(usize),
-}
-
-// The first value that is NaN or infinite, by place.
-pub fn first_not_finite(values: &[f32]) -> Place
-    ensures { λ r. ⌜ r ≡ firstNotFinite (now (values .entry)) ⌝ }
-{
-    let mut i = 0usize;
-    while i < values.len() {
-        if !is_finite(values[i]) {
-            return Place::At(i);
-        }
-        i += 1;
-    }
-    Place::Nowhere
 }

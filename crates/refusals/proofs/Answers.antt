@@ -40,12 +40,12 @@ done number place false qs e = (refl, e)
 done number place true qs e = absurd (no-not-done number place e)
 
 -- two lists of questions, one after the other: the second is asked where the first is done
-andThen : Answer → Answer → Answer
+abbrev pub andThen : Answer → Answer → Answer
 andThen Done rest = rest
 andThen (No number place) rest = No number place
 
-appended : (qs rest : List Question) → answerOf (qs ++ rest) ≡ andThen (answerOf qs) (answerOf rest)
-unfolding answerOf andThen
+pub appended : (qs rest : List Question) → answerOf (qs ++ rest) ≡ andThen (answerOf qs) (answerOf rest)
+unfolding answerOf
 appended [] rest = refl
 appended (q ∷ qs) rest = by (q .given) (appended qs rest)
   where
@@ -55,15 +55,12 @@ appended (q ∷ qs) rest = by (q .given) (appended qs rest)
     by false e = e
 
 pub first-refuses : {number place : ℕ} (qs rest : List Question) → No number place ≡ answerOf qs → No number place ≡ answerOf (qs ++ rest)
-unfolding andThen
 first-refuses qs rest e = ap (λ a. andThen a (answerOf rest)) e ∙ sym (appended qs rest)
 
 pub first-done : {r : Answer} (qs rest : List Question) → Done ≡ answerOf qs → r ≡ answerOf rest → r ≡ answerOf (qs ++ rest)
-unfolding andThen
 first-done qs rest e f = f ∙ ap (λ a. andThen a (answerOf rest)) e ∙ sym (appended qs rest)
 
 pub both-done : (qs rest : List Question) → answerOf (qs ++ rest) ≡ Done → (answerOf qs ≡ Done) × (answerOf rest ≡ Done)
-unfolding andThen
 both-done qs rest e = by (answerOf qs) (sym (appended qs rest) ∙ e)
   where
     by : (a : Answer) → andThen a (answerOf rest) ≡ Done → (a ≡ Done) × (answerOf rest ≡ Done)

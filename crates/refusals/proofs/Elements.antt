@@ -1,90 +1,42 @@
--- The questions for elements, answered by a scan that stops at the first refused one. Assumes nothing.
-use mathlib.Core.Path.{_≡_, refl, sym, ap, _∙_}
-use mathlib.Core.Bool.{Bool, true, false, not, cond}
+-- The questions for the elements of a row, one element after another, and what a row that is taken says of each. Assumes nothing.
+use mathlib.Core.Path.{_≡_, refl, ap}
+use mathlib.Core.Bool.{Bool, true, false, not}
 use mathlib.Core.List.{List, [], _∷_}
-use Prim.Native.Nat.{ℕ, suc}
-use lib.Ieee.{Float}
+use Prim.Native.Nat.{ℕ, suc, _+_, _<_}
+use native.Mathlib.Numerals.{add-one}
 use lib.Dec.{T}
+use lib.ListN.{length, getD, drop}
+use lib.Seq.{drop-cons}
+use lib.Ieee.{Float, nan}
 use borrow.Author.Tests.{not-true, not-false}
 use Rattle.float_laws.specs.Kind.{finite}
+use Rattle.float_laws.specs.Size.{Within}
 use Rattle.float_laws.proofs.Logic.{yes, no}
 use Rattle.list_laws.specs.Every.{both, every}
-use Rattle.list_laws.proofs.Every.{both-left, both-right}
-use Rattle.factor.specs.declared.Checked.the-variants as checked
-use Rattle.factor.specs.declared.Scanned.{Scanned}
-use Rattle.factor.specs.declared.Scanned.the-variants.{Taken, TooFar, NotFinite}
-use Rattle.factor.specs.declared.Place.{Place}
-use Rattle.factor.specs.declared.Place.the-variants.{Nowhere, At}
-use Rattle.factor.specs.Check.{beyond, unlessWithin, firstFrom, firstRefused, notFiniteFrom, firstNotFinite}
+use Rattle.list_laws.proofs.Every.{both-left, both-right, at}
+use Rattle.factor.specs.Check.{factorLimit, beyond}
+use Rattle.factor.proofs.Laws as factor
 use Rattle.refusals.specs.declared.Answer.{Answer}
-use Rattle.refusals.specs.declared.Answer.the-variants.{Done, No}
+use Rattle.refusals.specs.declared.Answer.the-variants.{Done}
+use Rattle.refusals.specs.declared.Element.{Element}
+use Rattle.refusals.specs.declared.Element.the-variants.{Factor, Value}
 use Rattle.refusals.specs.Answers.{answerOf}
-use Rattle.refusals.specs.Elements.{factorQuestions, valueQuestions}
-use Rattle.refusals.proofs.Answers.{no-not-done, none-left, not-given, done}
+use Rattle.refusals.specs.Elements.{elementAsked, elementQuestions}
+use Rattle.refusals.proofs.Answers.{none-left, not-given, done, andThen, appended, first-done, both-done}
 
--- a scan's result as an answer: 7 and 8 for factors, 12 for other values
-scanned : Scanned → Answer
-scanned Taken = Done
-scanned (NotFinite place) = No 7 place
-scanned (TooFar place) = No 8 place
+-- ---- what is left from i on starts with the element at i
+pub element-at : (element : Element) (xs : List Float) (i : ℕ) (r : Answer) → i < length xs → r ≡ answerOf (elementAsked element i (getD xs i nan))
+    → answerOf (elementQuestions element i (drop i xs)) ≡ andThen r (answerOf (elementQuestions element (i + 1) (drop (i + 1) xs)))
+unfolding elementQuestions
+element-at element xs i r h e = rw (drop-cons xs i nan h, add-one, e) (appended (elementAsked element i (getD xs i nan)) _)
 
-found : Place → Answer
-found Nowhere = Done
-found (At place) = No 12 place
+-- ---- no question is given exactly when every element is as it should be
 
-factors-from : (limit : Float) (place : ℕ) (xs : List Float) → answerOf (factorQuestions limit place xs) ≡ scanned (firstFrom limit place xs)
-unfolding factorQuestions answerOf firstFrom scanned
-factors-from limit place [] = refl
-factors-from limit place (x ∷ xs) = by (finite x) (beyond limit x) _ _ (factors-from limit (suc place) xs)
-  where
-    by : (f b : Bool) (rest : Answer) (more : Scanned) → rest ≡ scanned more
-        → cond (not f) (No 7 place) (cond b (No 8 place) rest)
-        ≡ scanned (unlessWithin (cond f (cond b (checked.TooFar x) (checked.Within x)) checked.NotFinite) place more)
-    by true true r m e = refl
-    by true false r m e = e
-    by false b r m e = refl
+-- a factor is finite and not beyond the limit; a value is finite
+abbrev pub takenAs : Element → Float → Bool
+takenAs (Factor limit) x = both (finite x) (not (beyond limit x))
+takenAs Value x = finite x
 
-pub not-finite-factor : (limit : Float) (xs : List Float) (place : ℕ) → NotFinite place ≡ firstRefused limit xs → No 7 place ≡ answerOf (factorQuestions limit 0 xs)
-unfolding scanned
-not-finite-factor limit xs place e = ap scanned e ∙ sym (factors-from limit 0 xs)
-
-pub too-far-factor : (limit : Float) (xs : List Float) (place : ℕ) → TooFar place ≡ firstRefused limit xs → No 8 place ≡ answerOf (factorQuestions limit 0 xs)
-unfolding scanned
-too-far-factor limit xs place e = ap scanned e ∙ sym (factors-from limit 0 xs)
-
-pub factors-taken : (limit : Float) (xs : List Float) → Taken ≡ firstRefused limit xs → Done ≡ answerOf (factorQuestions limit 0 xs)
-unfolding scanned
-factors-taken limit xs e = ap scanned e ∙ sym (factors-from limit 0 xs)
-
--- and back: where no factor is refused the scan found none
-pub done-taken : (limit : Float) (xs : List Float) → answerOf (factorQuestions limit 0 xs) ≡ Done → firstRefused limit xs ≡ Taken
-unfolding scanned
-done-taken limit xs e = go (firstRefused limit xs) (sym (factors-from limit 0 xs) ∙ e)
-  where
-    go : (r : Scanned) → scanned r ≡ Done → r ≡ Taken
-    go Taken h = refl
-    go (NotFinite place) h = absurd (no-not-done 7 place h)
-    go (TooFar place) h = absurd (no-not-done 8 place h)
-
--- the values, in the same way
-values-from : (place : ℕ) (xs : List Float) → answerOf (valueQuestions place xs) ≡ found (notFiniteFrom place xs)
-unfolding valueQuestions answerOf notFiniteFrom found
-values-from place [] = refl
-values-from place (x ∷ xs) = by (finite x) _ _ (values-from (suc place) xs)
-  where
-    by : (f : Bool) (rest : Answer) (more : Place) → rest ≡ found more → cond (not f) (No 12 place) rest ≡ found (cond f more (At place))
-    by true r m e = e
-    by false r m e = refl
-
-pub refused-value : (xs : List Float) (place : ℕ) → At place ≡ firstNotFinite xs → No 12 place ≡ answerOf (valueQuestions 0 xs)
-unfolding found
-refused-value xs place e = ap found e ∙ sym (values-from 0 xs)
-
-pub values-taken : (xs : List Float) → Nowhere ≡ firstNotFinite xs → Done ≡ answerOf (valueQuestions 0 xs)
-unfolding found
-values-taken xs e = ap found e ∙ sym (values-from 0 xs)
-
--- ---- done exactly when every element is as it should be
 pair : (a b : Bool) → T a → T b → T (both a b)
 pair true b t u = u
 pair false b t u = t
@@ -93,35 +45,37 @@ is : (b : Bool) → T b → b ≡ true
 is true t = refl
 is false t = absurd t
 
-pub values-done : (place : ℕ) (xs : List Float) → T (every finite xs) → Done ≡ answerOf (valueQuestions place xs)
-unfolding valueQuestions
-values-done place [] t = none-left
-values-done place (x ∷ xs) t =
-    not-given 12 place _ _ (ap not (is (finite x) (both-left (finite x) (every finite xs) t))) (values-done (suc place) xs (both-right (finite x) (every finite xs) t))
+-- one element
+one-done : (element : Element) (place : ℕ) (x : Float) → T (takenAs element x) → Done ≡ answerOf (elementAsked element place x)
+one-done (Factor limit) place x t =
+    not-given 7 place _ _ (ap not (is (finite x) (both-left (finite x) (not (beyond limit x)) t)))
+    (not-given 8 place _ _ (not-true _ (is _ (both-right (finite x) (not (beyond limit x)) t))) none-left)
+one-done Value place x t = not-given 12 place _ _ (ap not (is (finite x) t)) none-left
 
-pub done-values : (place : ℕ) (xs : List Float) → answerOf (valueQuestions place xs) ≡ Done → T (every finite xs)
-unfolding valueQuestions
-done-values place [] e = tt
-done-values place (x ∷ xs) e =
-    let d = done 12 place (not (finite x)) _ e in
-    pair (finite x) (every finite xs) (yes (not-false (finite x) (d .0))) (done-values (suc place) xs (d .1))
+done-one : (element : Element) (place : ℕ) (x : Float) → answerOf (elementAsked element place x) ≡ Done → T (takenAs element x)
+done-one (Factor limit) place x e =
+    let d = done 7 place (not (finite x)) _ e in
+    pair (finite x) (not (beyond limit x)) (yes (not-false (finite x) (d .0))) (no {b = beyond limit x} (done 8 place (beyond limit x) _ (d .1) .0))
+done-one Value place x e = yes (not-false (finite x) (done 12 place (not (finite x)) _ e .0))
 
-module _ (limit : Float) where
-  ok : Float → Bool
-  ok x = both (finite x) (not (beyond limit x))
+-- a row of them
+pub all-done : (element : Element) (place : ℕ) (xs : List Float) → T (every (takenAs element) xs) → Done ≡ answerOf (elementQuestions element place xs)
+unfolding elementQuestions
+all-done element place [] t = none-left
+all-done element place (x ∷ xs) t =
+    first-done (elementAsked element place x) _ (one-done element place x (both-left (takenAs element x) (every (takenAs element) xs) t))
+    (all-done element (suc place) xs (both-right (takenAs element x) (every (takenAs element) xs) t))
 
-  pub factors-done : (place : ℕ) (xs : List Float) → T (every (λ x. both (finite x) (not (beyond limit x))) xs) → Done ≡ answerOf (factorQuestions limit place xs)
-  unfolding factorQuestions ok
-  factors-done place [] t = none-left
-  factors-done place (x ∷ xs) t =
-      let h = both-left (ok x) (every ok xs) t in
-      not-given 7 place _ _ (ap not (is (finite x) (both-left (finite x) (not (beyond limit x)) h)))
-      (not-given 8 place _ _ (not-true _ (is _ (both-right (finite x) (not (beyond limit x)) h))) (factors-done (suc place) xs (both-right (ok x) (every ok xs) t)))
+pub done-all : (element : Element) (place : ℕ) (xs : List Float) → answerOf (elementQuestions element place xs) ≡ Done → T (every (takenAs element) xs)
+unfolding elementQuestions
+done-all element place [] e = tt
+done-all element place (x ∷ xs) e =
+    let d = both-done (elementAsked element place x) _ e in
+    pair (takenAs element x) (every (takenAs element) xs) (done-one element place x (d .0)) (done-all element (suc place) xs (d .1))
 
-  pub done-factors : (place : ℕ) (xs : List Float) → answerOf (factorQuestions limit place xs) ≡ Done → T (every (λ x. both (finite x) (not (beyond limit x))) xs)
-  unfolding factorQuestions ok
-  done-factors place [] e = tt
-  done-factors place (x ∷ xs) e =
-      let d = done 7 place (not (finite x)) _ e in
-      let h = done 8 place (beyond limit x) _ (d .1) in
-      pair (ok x) (every ok xs) (pair (finite x) (not (beyond limit x)) (yes (not-false (finite x) (d .0))) (no {b = beyond limit x} (h .0))) (done-factors (suc place) xs (h .1))
+-- ---- each factor of a row that is taken is within the limit
+pub within-limit : (xs : List Float) → answerOf (elementQuestions (Factor factorLimit) 0 xs) ≡ Done → (i : ℕ) → i < length xs → Within (getD xs i nan) 64 1
+within-limit xs e i h =
+    let x = getD xs i nan in
+    let t = at nan (takenAs (Factor factorLimit)) xs (done-all (Factor factorLimit) 0 xs e) i h in
+    factor.within-limit x (both-left (finite x) (not (beyond factorLimit x)) t) (not-true _ (is _ (both-right (finite x) (not (beyond factorLimit x)) t)))

@@ -7,8 +7,13 @@ use native.Mathlib.Omega.{arith}
 use lib.Dec.{T, leb, leb→le}
 use lib.ListN.{length}
 use lib.Ieee.{Float}
+use Rattle.refusals.specs.declared.Answer.{Answer}
+use Rattle.refusals.specs.declared.Answer.the-variants.{Done, No}
+use Rattle.refusals.specs.declared.Element.{Element}
+use Rattle.refusals.specs.declared.Element.the-variants.{Factor, Value}
 use Rattle.refusals.specs.Answers.{Question, ask, answerOf, placeOf}
-use Rattle.refusals.specs.Elements.{factorQuestions, valueQuestions}
+use Rattle.refusals.specs.Elements.{elementAsked, elementQuestions}
+use Rattle.refusals.proofs.Answers.{andThen, appended}
 
 unfoldable pub Most : List Question → Type 0
 Most qs = placeOf (answerOf qs) ≤ 400
@@ -27,14 +32,22 @@ step number place false qs h m = m refl
 pub ask-step : (number place : ℕ) (b : Bool) (qs : List Question) → T (leb place 400) → (b ≡ false → Most qs) → Most (ask number place b ∷ qs)
 ask-step number place b qs h m = step number place b qs (leb→le place 400 h) m
 
--- the elements of a row of at most 400, from a place on
-pub of-factors : (limit : Float) (place : ℕ) (xs : List Float) → place + length xs ≤ 400 → Most (factorQuestions limit place xs)
-unfolding factorQuestions
-of-factors limit place [] h = none
-of-factors limit place (x ∷ xs) h =
-    step 7 place _ _ (omega arith) (λ p. step 8 place _ _ (omega arith) (λ q. of-factors limit (suc place) xs (omega arith)))
+-- two lists, one after the other
+pub joined : (qs rest : List Question) → Most qs → Most rest → Most (qs ++ rest)
+unfolding Most
+joined qs rest m n = rw (appended qs rest) (by (answerOf qs) m)
+  where
+    by : (a : Answer) → placeOf a ≤ 400 → placeOf (andThen a (answerOf rest)) ≤ 400
+    by Done h = n
+    by (No number place) h = h
 
-pub of-values : (place : ℕ) (xs : List Float) (rest : List Question) → place + length xs ≤ 400 → Most rest → Most (valueQuestions place xs ++ rest)
-unfolding valueQuestions
-of-values place [] rest h m = m
-of-values place (x ∷ xs) rest h m = step 12 place _ _ (omega arith) (λ p. of-values (suc place) xs rest (omega arith) m)
+-- an element's questions have the element's place
+of-element : (element : Element) (place : ℕ) (x : Float) → place ≤ 400 → Most (elementAsked element place x)
+of-element (Factor limit) place x h = step 7 place _ _ h (λ p. step 8 place _ _ h (λ q. none))
+of-element Value place x h = step 12 place _ _ h (λ p. none)
+
+-- the elements of a row of at most 400, from a place on
+pub of-elements : (element : Element) (place : ℕ) (xs : List Float) → place + length xs ≤ 400 → Most (elementQuestions element place xs)
+unfolding elementQuestions
+of-elements element place [] h = none
+of-elements element place (x ∷ xs) h = joined _ _ (of-element element place x (omega arith)) (of-elements element (suc place) xs (omega arith))

@@ -8,8 +8,6 @@ use lib.ListN.{length, getD}
 use lib.Ieee.{Float, nan}
 use Rattle.float_laws.proofs.Size.{within-up}
 use Rattle.float_laws.specs.Bounded.{Bounded}
-use Rattle.factor.specs.Check.{factorLimit}
-use Rattle.factor.proofs.Laws.{within-limit}
 use Rattle.shape_numbers.proofs.Claims.{numbers-indexed, pulses-again}
 use Rattle.stage1.specs.Stage1.{residual}
 use Rattle.stage2_target.specs.Target.{targetOf}
@@ -25,7 +23,7 @@ use Rattle.sns_encode.specs.Encode.{encodeQuestions, encodeAnswer, fieldsOf}
 use Rattle.sns.specs.EncodeClaims.{AllAnswered, NoneBeats, NoGainBeats, DecodesAgain}
 use Rattle.sns_decode.proofs.Claims.{decode-takes}
 use Rattle.refusals.proofs.Answers.{done}
-use Rattle.refusals.proofs.Elements.{done-taken}
+use Rattle.refusals.proofs.Elements.{within-limit}
 
 pub all-answered : AllAnswered
 unfolding quantizedOf stage2Of resultOf selectedOf
@@ -39,7 +37,7 @@ taken-bounded factors len e n h =
     let b = done 9 0 _ _ (a .1) in
     let l = eqb-true (length factors) 16 (not-false _ (a .0)) in
     within-up (getD factors n nan) 64 1 512 1 (lit< tt) (lit≤ tt)
-    (within-limit factors (done-taken factorLimit factors (b .1)) n (subst (λ (m : ℕ). n < m) (sym l) h))
+    (within-limit factors (b .1) n (subst (λ (m : ℕ). n < m) (sym l) h))
 
 pub none-beats : NoneBeats
 none-beats factors len e = all-nearest factors (taken-bounded factors len e)

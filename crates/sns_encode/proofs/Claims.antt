@@ -9,11 +9,12 @@ use Rattle.encoder.specs.Quantized.{quantizedOf}
 use Rattle.encoder.specs.declared.Quantized.{Quantized}
 use Rattle.refusals.specs.declared.Answer.{Answer}
 use Rattle.refusals.specs.declared.Answer.the-variants.{Done, No}
+use Rattle.refusals.specs.declared.Element.the-variants.{Factor}
 use Rattle.refusals.specs.Answers.{kept}
 use Rattle.sns_encode.specs.Encode.{encodeQuestions, encodeAnswer, encodedAs}
 use Rattle.sns_encode.specs.Claims.{EncodePinned, EncodeKeeps, FactorsAlone, EncodeTaken, EncodeTakes}
 use Rattle.refusals.proofs.Answers.{done}
-use Rattle.refusals.proofs.Elements.{factors-done, done-factors}
+use Rattle.refusals.proofs.Elements.{all-done, done-all}
 use Rattle.sns_encode.proofs.EncodeAnswers.{by-factors}
 
 pub encode-pinned : EncodePinned
@@ -42,7 +43,7 @@ unfolding encodeQuestions
 encode-takes factors len = (there, back)
   where
     there : EncodeTaken factors len → encodeAnswer factors len ≡ Done
-    there t = sym (by-factors factors len (t .sixteen) (t .long) (factors-done factorLimit 0 factors (t .in-range)))
+    there t = sym (by-factors factors len (t .sixteen) (t .long) (all-done (Factor factorLimit) 0 factors (t .in-range)))
 
     back : encodeAnswer factors len ≡ Done → EncodeTaken factors len
     back e =
@@ -51,5 +52,5 @@ encode-takes factors len = (there, back)
         record {
           sixteen = eqb-true _ 16 (not-false _ (a .0));
           long = eqb-true len 16 (not-false _ (b .0));
-          in-range = done-factors factorLimit 0 factors (b .1);
+          in-range = done-all (Factor factorLimit) 0 factors (b .1);
         }

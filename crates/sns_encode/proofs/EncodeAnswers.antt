@@ -9,8 +9,9 @@ use lib.Ieee.{Float}
 use Rattle.factor.specs.Check.{factorLimit}
 use Rattle.refusals.specs.declared.Answer.{Answer}
 use Rattle.refusals.specs.declared.Answer.the-variants.{Done, No}
+use Rattle.refusals.specs.declared.Element.the-variants.{Factor}
 use Rattle.refusals.specs.Answers.{answerOf}
-use Rattle.refusals.specs.Elements.{factorQuestions}
+use Rattle.refusals.specs.Elements.{elementQuestions}
 use Rattle.sns_encode.specs.Encode.{encodeQuestions, encodeAnswer}
 use Rattle.refusals.proofs.Answers.{given, not-given, done}
 
@@ -24,7 +25,7 @@ module _ (factors : List Float) (len : ℕ) where
     unfolding encodeQuestions
     no-9-out q = not-given 9 0 _ _ (ap not (eq-eqb (length factors) 16 l)) (given 9 0 _ _ (ap not (ne-eqb len 16 q)))
 
-    pub by-factors : {r : Answer} → len ≡ 16 → r ≡ answerOf (factorQuestions factorLimit 0 factors) → r ≡ encodeAnswer factors len
+    pub by-factors : {r : Answer} → len ≡ 16 → r ≡ answerOf (elementQuestions (Factor factorLimit) 0 factors) → r ≡ encodeAnswer factors len
     unfolding encodeQuestions
     by-factors q e = not-given 9 0 _ _ (ap not (eq-eqb (length factors) 16 l)) (not-given 9 0 _ _ (ap not (eq-eqb len 16 q)) e)
 

@@ -6,12 +6,11 @@ use borrow.Author.Tests.{not-false, eqb-true}
 use lib.ListN.{length}
 use lib.Ieee.{Float}
 use Rattle.refusals.specs.Answers.{placeOf}
-use Rattle.factor.specs.Check.{factorLimit}
 use Rattle.sns_encode.specs.Encode.{encodeQuestions, encodeAnswer}
-use Rattle.refusals.proofs.Places.{Most, ask-step, of-factors}
+use Rattle.refusals.proofs.Places.{Most, ask-step, of-elements}
 
 pub encode-place : (factors : List Float) (len : ℕ) → placeOf (encodeAnswer factors len) ≤ 400
 unfolding Most encodeQuestions
 encode-place factors len =
     ask-step 9 0 _ _ tt (λ a. ask-step 9 0 _ _ tt (λ b.
-    of-factors factorLimit 0 factors (omega (arith, eqb-true (length factors) 16 (not-false _ a)))))
+    of-elements _ 0 factors (omega (arith, eqb-true (length factors) 16 (not-false _ a)))))

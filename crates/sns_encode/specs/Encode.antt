@@ -11,17 +11,18 @@ use Rattle.encoder.specs.Quantized.{quantizedOf}
 use Rattle.encoder.specs.declared.Quantized.{Quantized}
 use Rattle.refusals.specs.declared.Answer.{Answer}
 use Rattle.refusals.specs.declared.Answer.the-variants.{Done, No}
+use Rattle.refusals.specs.declared.Element.the-variants.{Factor}
 use Rattle.frame_fields.specs.declared.Fields.{Fields}
 use Rattle.sns_encode.specs.declared.Encoded.{Encoded}
 use Rattle.refusals.specs.Answers.{Question, ask, answerOf, kept}
-use Rattle.refusals.specs.Elements.{factorQuestions}
+use Rattle.refusals.specs.Elements.{elementQuestions}
 
 -- 9: a lent buffer has the wrong length (factors 16, and the sixteen to be filled). Then the factors by place.
 unfoldable pub encodeQuestions : List Float → ℕ → List Question
 encodeQuestions factors len =
     ask 9 0 (not (eqb (length factors) 16)) ∷
     ask 9 0 (not (eqb len 16)) ∷
-    factorQuestions factorLimit 0 factors
+    elementQuestions (Factor factorLimit) 0 factors
 
 abbrev pub encodeAnswer : List Float → ℕ → Answer
 encodeAnswer factors len = answerOf (encodeQuestions factors len)

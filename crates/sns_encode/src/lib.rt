@@ -1,8 +1,8 @@
 // Encoding: sixteen factors into a frame's fields and sixteen synthesised factors.
 use encoder::Quantized;
-use factor::Scanned;
 use frame_fields::Fields;
 use refusals::Answer;
+use refusals::Element;
 ghost use mathlib.Core.Path.{_≡_};
 ghost use Prim.Native.Nat.{_<_};
 ghost use Rattle.refusals.specs.declared.Answer.the-variants.{Done};
@@ -25,11 +25,7 @@ fn refusal(factors: &[f32], len: usize) -> Answer
     if len != 16 {
         return Answer::No(9, 0);
     }
-    match factor::first_refused(factors, factor::factor_limit()) {
-        Scanned::NotFinite(place) => Answer::No(7, place),
-        Scanned::TooFar(place) => Answer::No(8, place),
-        Scanned::Taken => Answer::Done,
-    }
+    refusals::first_refused(factors, Element::Factor(factor::factor_limit()))
 }
 
 // The answer of a quantized frame.

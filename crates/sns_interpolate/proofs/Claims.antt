@@ -4,10 +4,11 @@ use borrow.Author.Tests.{not-false, eqb-true}
 use lib.ListN.{length}
 use Rattle.interpolation.specs.Bands.{interpolated, bandLimit}
 use Rattle.refusals.specs.declared.Answer.the-variants.{Done}
+use Rattle.refusals.specs.declared.Element.the-variants.{Factor}
 use Rattle.sns_interpolate.specs.Interpolate.{interpolateAnswer, interpolateQuestions}
 use Rattle.sns_interpolate.specs.Claims.{InterpolatePinned, InterpolateKeeps, InterpolateTaken, InterpolateTakes}
 use Rattle.refusals.proofs.Answers.{done}
-use Rattle.refusals.proofs.Elements.{factors-done, done-factors}
+use Rattle.refusals.proofs.Elements.{all-done, done-all}
 use Rattle.sns_interpolate.proofs.InterpolateAnswers.{by-factors}
 use Rattle.refusals.proofs.Pinned.{pinned, keeps}
 
@@ -22,7 +23,7 @@ unfolding interpolateQuestions
 interpolate-takes factors count len = (there, back)
   where
     there : InterpolateTaken factors count len → interpolateAnswer factors count len ≡ Done
-    there t = sym (by-factors factors count len (t .count-ok) (t .sixteen) (t .long) (factors-done bandLimit 0 factors (t .in-range)))
+    there t = sym (by-factors factors count len (t .count-ok) (t .sixteen) (t .long) (all-done (Factor bandLimit) 0 factors (t .in-range)))
 
     back : interpolateAnswer factors count len ≡ Done → InterpolateTaken factors count len
     back e =
@@ -33,5 +34,5 @@ interpolate-takes factors count len = (there, back)
           count-ok = not-false _ (a .0);
           sixteen = eqb-true _ 16 (not-false _ (b .0));
           long = eqb-true len count (not-false _ (d .0));
-          in-range = done-factors bandLimit 0 factors (d .1);
+          in-range = done-all (Factor bandLimit) 0 factors (d .1);
         }

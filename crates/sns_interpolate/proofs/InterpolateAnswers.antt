@@ -9,8 +9,9 @@ use lib.Ieee.{Float}
 use Rattle.interpolation.specs.Bands.{bandLimit, countOk}
 use Rattle.refusals.specs.declared.Answer.{Answer}
 use Rattle.refusals.specs.declared.Answer.the-variants.{No}
+use Rattle.refusals.specs.declared.Element.the-variants.{Factor}
 use Rattle.refusals.specs.Answers.{answerOf}
-use Rattle.refusals.specs.Elements.{factorQuestions}
+use Rattle.refusals.specs.Elements.{elementQuestions}
 use Rattle.sns_interpolate.specs.Interpolate.{interpolateQuestions, interpolateAnswer}
 use Rattle.refusals.proofs.Answers.{given, not-given}
 
@@ -29,7 +30,7 @@ module _ (factors : List Float) (count len : ℕ) where
       unfolding interpolateQuestions
       no-9-bands q = not-given 11 0 _ _ (ap not p) (not-given 9 0 _ _ (ap not (eq-eqb (length factors) 16 l)) (given 9 0 _ _ (ap not (ne-eqb len count q))))
 
-      pub by-factors : {r : Answer} → len ≡ count → r ≡ answerOf (factorQuestions bandLimit 0 factors) → r ≡ interpolateAnswer factors count len
+      pub by-factors : {r : Answer} → len ≡ count → r ≡ answerOf (elementQuestions (Factor bandLimit) 0 factors) → r ≡ interpolateAnswer factors count len
       unfolding interpolateQuestions
       by-factors q e =
           not-given 11 0 _ _ (ap not p) (not-given 9 0 _ _ (ap not (eq-eqb (length factors) 16 l)) (not-given 9 0 _ _ (ap not (eq-eqb len count q)) e))

@@ -8,8 +8,9 @@ use lib.ListN.{length}
 use lib.Ieee.{Float}
 use Rattle.interpolation.specs.Bands.{bandLimit, countOk, interpolated}
 use Rattle.refusals.specs.declared.Answer.{Answer}
+use Rattle.refusals.specs.declared.Element.the-variants.{Factor}
 use Rattle.refusals.specs.Answers.{Question, ask, answerOf, kept}
-use Rattle.refusals.specs.Elements.{factorQuestions}
+use Rattle.refusals.specs.Elements.{elementQuestions}
 
 -- 11: the band count isn't 60 or 64. 9: a lent buffer has the wrong length (factors 16, bands the band count). Then the factors by place.
 unfoldable pub interpolateQuestions : List Float → ℕ → ℕ → List Question
@@ -17,7 +18,7 @@ interpolateQuestions factors count len =
     ask 11 0 (not (countOk count)) ∷
     ask 9 0 (not (eqb (length factors) 16)) ∷
     ask 9 0 (not (eqb len count)) ∷
-    factorQuestions bandLimit 0 factors
+    elementQuestions (Factor bandLimit) 0 factors
 
 abbrev pub interpolateAnswer : List Float → ℕ → ℕ → Answer
 interpolateAnswer factors count len = answerOf (interpolateQuestions factors count len)

@@ -1,6 +1,6 @@
 // Interpolation: sixteen factors into bands.
-use factor::Scanned;
 use refusals::Answer;
+use refusals::Element;
 ghost use Rattle.sns_interpolate.specs.Interpolate.{InterpolateSays};
 
 // Fills `bands`, `band_count` of them, 60 or 64, from sixteen factors. Refused with 11 (the band count), 9 (the factors'
@@ -17,10 +17,9 @@ pub fn interpolate(factors: &[f32], band_count: u32, bands: &mut [f32]) -> Answe
     if bands.len() != band_count as usize {
         return Answer::No(9, 0);
     }
-    match factor::first_refused(factors, interpolation::band_limit()) {
-        Scanned::NotFinite(place) => Answer::No(7, place),
-        Scanned::TooFar(place) => Answer::No(8, place),
-        Scanned::Taken => {
+    match refusals::first_refused(factors, Element::Factor(interpolation::band_limit())) {
+        Answer::No(number, place) => Answer::No(number, place),
+        Answer::Done => {
             interpolation::interpolate(&rows::sixteen(factors), bands);
             Answer::Done
         }

@@ -4,14 +4,15 @@ use borrow.Author.Tests.{not-false, eqb-true, ltb-false}
 use Rattle.interpolation.specs.Bands.{countOk}
 use Rattle.shaping.specs.Shaping.{shapedOf}
 use Rattle.refusals.specs.declared.Answer.the-variants.{Done}
+use Rattle.refusals.specs.declared.Element.the-variants.{Value}
 use Rattle.sns_shape.specs.Shape.{shapeAnswer, shapeQuestions}
 use Rattle.sns_shape.specs.Claims.{ShapePinned, ShapeKeeps, ShapeTaken, ShapeTakes}
 use Rattle.refusals.proofs.Answers.{done, both-done}
 use mathlib.Core.Bool.{Bool, true, false, not, _||_, false≢true}
 use lib.Dec.{eqb}
 use Rattle.band_index_tables.specs.Bands.{bandsOf}
-use Rattle.refusals.specs.Elements.{valueQuestions}
-use Rattle.refusals.proofs.Elements.{values-done, done-values}
+use Rattle.refusals.specs.Elements.{elementQuestions}
+use Rattle.refusals.proofs.Elements.{all-done, done-all}
 use Rattle.sns_shape.proofs.ShapeAnswers.{by-lines}
 use Rattle.refusals.proofs.Pinned.{pinned, keeps}
 
@@ -29,7 +30,7 @@ shape-takes rate ten count gains lines = (there, back)
     there t =
         sym (by-lines rate ten count gains lines
         (record { rate-most = t .rate-most; count-is = t .count-is; gain-count = t .gain-count; line-count = t .line-count })
-        (values-done 0 _ (t .gains-finite)) (values-done 0 _ (t .lines-finite)))
+        (all-done Value 0 _ (t .gains-finite)) (all-done Value 0 _ (t .lines-finite)))
 
     right : (a b : Bool) → a || not b ≡ false → b ≡ true
     right true b h = absurd (false≢true (sym h))
@@ -41,12 +42,12 @@ shape-takes rate ten count gains lines = (there, back)
         let b = done 11 0 _ _ (a .1) in
         let g = done 9 0 _ _ (b .1) in
         let l = done 9 0 _ _ (g .1) in
-        let v = both-done (valueQuestions 0 gains) _ (l .1) in
+        let v = both-done (elementQuestions Value 0 gains) _ (l .1) in
         record {
           rate-most = ltb-false 4 rate (a .0);
           count-is = eqb-true _ _ (right (not (countOk count)) (eqb count (bandsOf rate ten)) (b .0));
           gain-count = eqb-true _ _ (not-false _ (g .0));
           line-count = ltb-false _ _ (l .0);
-          gains-finite = done-values 0 gains (v .0);
-          lines-finite = done-values 0 _ (v .1);
+          gains-finite = done-all Value 0 gains (v .0);
+          lines-finite = done-all Value 0 _ (v .1);
         }

@@ -1,7 +1,7 @@
 -- The call's place is at most 400. Assumes nothing.
 use mathlib.Core.Path.{_≡_, sym, subst}
 use mathlib.Core.Bool.{Bool, true, false, false≢true, not, _||_}
-use mathlib.Core.List.{List, [], append-nil}
+use mathlib.Core.List.{List}
 use Prim.Native.Nat.{ℕ, _+_, _≤_, _<_}
 use native.Mathlib.Nat.{le-trans, le-of-eq, min-le-left}
 use native.Mathlib.Omega.{arith}
@@ -14,9 +14,10 @@ use Rattle.band_index_tables.specs.Bands.{limitTables, bandsOf, lastLimit}
 use Rattle.shaping.proofs.Laws.{bands-most}
 use Rattle.interpolation.specs.Bands.{countOk}
 use Rattle.refusals.specs.Answers.{placeOf}
-use Rattle.refusals.specs.Elements.{valueQuestions}
+use Rattle.refusals.specs.declared.Element.the-variants.{Value}
+use Rattle.refusals.specs.Elements.{elementQuestions}
 use Rattle.sns_shape.specs.Shape.{shapeQuestions, shapeAnswer}
-use Rattle.refusals.proofs.Places.{Most, none, ask-step, of-values}
+use Rattle.refusals.proofs.Places.{Most, ask-step, joined, of-elements}
 
 -- the last limit is at most 400: a computed test over the tables
 last-most : (rate : ℕ) (ten : Bool) → rate < 5 → lastLimit rate ten ≤ 400
@@ -36,7 +37,7 @@ unfolding Most shapeQuestions
 shape-place rate ten count gains lines =
     ask-step 10 0 _ _ tt (λ a. ask-step 11 0 _ _ tt (λ b. ask-step 9 0 _ _ tt (λ d. ask-step 9 0 _ _ tt (λ e.
     let r = below rate (ltb-false 4 rate a) in
-    of-values 0 gains _ (few (length gains) count (eqb-true _ _ (not-false _ d)) (counted b r)) (lines-most r)))))
+    joined _ _ (of-elements Value 0 gains (few (length gains) count (eqb-true _ _ (not-false _ d)) (counted b r))) (lines-most r)))))
   where
     few : (n c : ℕ) → n ≡ c → c ≤ 64 → 0 + n ≤ 400
     few n c e h = omega arith
@@ -47,6 +48,5 @@ shape-place rate ten count gains lines =
     from-none : {n : ℕ} → n ≤ 400 → 0 + n ≤ 400
     from-none h = omega arith
 
-    lines-most : rate < 5 → Most (valueQuestions 0 (take (lastLimit rate ten) lines))
-    lines-most r = subst Most (append-nil (valueQuestions 0 (take (lastLimit rate ten) lines)))
-        (of-values 0 (take (lastLimit rate ten) lines) [] (from-none (le-trans (le-of-eq (length-take _ lines)) (le-trans (min-le-left _ _) (last-most rate ten r)))) none)
+    lines-most : rate < 5 → Most (elementQuestions Value 0 (take (lastLimit rate ten) lines))
+    lines-most r = of-elements Value 0 _ (from-none (le-trans (le-of-eq (length-take _ lines)) (le-trans (min-le-left _ _) (last-most rate ten r))))

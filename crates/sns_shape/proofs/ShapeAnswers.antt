@@ -11,8 +11,9 @@ use Rattle.band_index_tables.specs.Bands.{bandsOf, lastLimit}
 use Rattle.interpolation.specs.Bands.{countOk}
 use Rattle.refusals.specs.declared.Answer.{Answer}
 use Rattle.refusals.specs.declared.Answer.the-variants.{Done, No}
+use Rattle.refusals.specs.declared.Element.the-variants.{Value}
 use Rattle.refusals.specs.Answers.{answerOf}
-use Rattle.refusals.specs.Elements.{valueQuestions}
+use Rattle.refusals.specs.Elements.{elementQuestions}
 use Rattle.sns_shape.specs.Shape.{shapeQuestions, shapeAnswer}
 use Rattle.refusals.proofs.Answers.{given, not-given, first-refuses, first-done}
 
@@ -64,7 +65,7 @@ module _ (rate : ℕ) (ten : Bool) (count : ℕ) (gains lines : List Float) wher
 
   module _ (f : Fitting rate ten count gains lines) where
     -- then the values are asked
-    by-values : {r : Answer} → r ≡ answerOf (valueQuestions 0 gains ++ valueQuestions 0 (take (lastLimit rate ten) lines))
+    by-values : {r : Answer} → r ≡ answerOf (elementQuestions Value 0 gains ++ elementQuestions Value 0 (take (lastLimit rate ten) lines))
         → r ≡ shapeAnswer rate ten count gains lines
     unfolding shapeQuestions
     by-values e =
@@ -72,9 +73,9 @@ module _ (rate : ℕ) (ten : Bool) (count : ℕ) (gains lines : List Float) wher
         (not-given 11 0 _ _ (the-tables rate ten count (f .count-is))
         (not-given 9 0 _ _ (ap not (eq-eqb (length gains) count (f .gain-count))) (not-given 9 0 _ _ (le-ltb _ _ (f .line-count)) e)))
 
-    pub by-gains : {number place : ℕ} → No number place ≡ answerOf (valueQuestions 0 gains) → No number place ≡ shapeAnswer rate ten count gains lines
-    by-gains e = by-values (first-refuses (valueQuestions 0 gains) _ e)
+    pub by-gains : {number place : ℕ} → No number place ≡ answerOf (elementQuestions Value 0 gains) → No number place ≡ shapeAnswer rate ten count gains lines
+    by-gains e = by-values (first-refuses (elementQuestions Value 0 gains) _ e)
 
-    pub by-lines : {r : Answer} → Done ≡ answerOf (valueQuestions 0 gains) → r ≡ answerOf (valueQuestions 0 (take (lastLimit rate ten) lines))
+    pub by-lines : {r : Answer} → Done ≡ answerOf (elementQuestions Value 0 gains) → r ≡ answerOf (elementQuestions Value 0 (take (lastLimit rate ten) lines))
         → r ≡ shapeAnswer rate ten count gains lines
-    by-lines e g = by-values (first-done (valueQuestions 0 gains) _ e g)
+    by-lines e g = by-values (first-done (elementQuestions Value 0 gains) _ e g)

@@ -10,8 +10,9 @@ use Rattle.band_index_tables.specs.Bands.{bandsOf, lastLimit}
 use Rattle.interpolation.specs.Bands.{countOk}
 use Rattle.shaping.specs.Shaping.{shapedOf}
 use Rattle.refusals.specs.declared.Answer.{Answer}
+use Rattle.refusals.specs.declared.Element.the-variants.{Value}
 use Rattle.refusals.specs.Answers.{Question, ask, answerOf, kept}
-use Rattle.refusals.specs.Elements.{valueQuestions}
+use Rattle.refusals.specs.Elements.{elementQuestions}
 
 -- 10: the rate index is over 4. 11: the band count isn't 60 or 64, or isn't the table's. 9: a lent buffer has the wrong length
 -- (gains the band count, lines fewer than the last band limit). 12 looks at all gains, then the lines below the last limit.
@@ -21,7 +22,7 @@ shapeQuestions rate ten count gains lines =
     ask 11 0 (not (countOk count) || not (eqb count (bandsOf rate ten))) ∷
     ask 9 0 (not (eqb (length gains) count)) ∷
     ask 9 0 (ltb (length lines) (lastLimit rate ten)) ∷
-    (valueQuestions 0 gains ++ valueQuestions 0 (take (lastLimit rate ten) lines))
+    (elementQuestions Value 0 gains ++ elementQuestions Value 0 (take (lastLimit rate ten) lines))
 
 abbrev pub shapeAnswer : ℕ → Bool → ℕ → List Float → List Float → Answer
 shapeAnswer rate ten count gains lines = answerOf (shapeQuestions rate ten count gains lines)

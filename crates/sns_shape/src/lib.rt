@@ -1,6 +1,6 @@
 // Shaping: each spectrum line times the linear gain of its band.
-use factor::Place;
 use refusals::Answer;
+use refusals::Element;
 ghost use Rattle.sns_shape.specs.Shape.{ShapeSays};
 
 // Multiplies each line of band b once by gain b; the lines past the last band limit stay. Refused with 10 (the rate, 0 to
@@ -23,12 +23,12 @@ pub fn shape(rate: u32, ten_ms: bool, band_count: u32, gains: &[f32], lines: &mu
     if count < end {
         return Answer::No(9, 0);
     }
-    if let Place::At(place) = factor::first_not_finite(gains) {
-        return Answer::No(12, place);
+    if let Answer::No(number, place) = refusals::first_refused(gains, Element::Value) {
+        return Answer::No(number, place);
     }
-    match factor::first_not_finite(&lines[0..end]) {
-        Place::At(place) => Answer::No(12, place),
-        Place::Nowhere => {
+    match refusals::first_refused(&lines[0..end], Element::Value) {
+        Answer::No(number, place) => Answer::No(number, place),
+        Answer::Done => {
             shaping::shape(rate as usize, ten_ms, gains, lines);
             Answer::Done
         }

@@ -5,12 +5,13 @@ use borrow.Author.Tests.{not-true, not-false}
 use mathlib.Core.Bool.{true}
 use lib.Dec.{T}
 use lib.ListN.{length}
-use Rattle.factor.specs.Check.{firstRefused}
 use Rattle.float_laws.specs.Kind.{finite}
 use Rattle.float_laws.specs.Decimal.{plus}
 use Rattle.float_laws.proofs.Logic.{yes}
 use Rattle.interpolation.specs.Bands.{bandLimit, countOk}
-use Rattle.refusals.proofs.Elements.{not-finite-factor, too-far-factor, factors-taken}
+use Rattle.refusals.specs.declared.Element.the-variants.{Factor}
+use Rattle.refusals.specs.Answers.{answerOf}
+use Rattle.refusals.specs.Elements.{elementQuestions}
 use Rattle.sns_interpolate.proofs.InterpolateAnswers.{no-11, no-9-factors, no-9-bands, by-factors}
 use Rattle.sns_interpolate.proofs.interpolate.Statement.{statement}
 use Rattle.sns_interpolate.proofs.interpolate.Tie as tie
@@ -26,7 +27,7 @@ returns : tie.Need-returns
 returns c = (no-11 _ _ _ (sym (c .before .count-ok .ensures) ∙ not-true _ (c .if1 .taken)), refl)
 
 -- the scan's result, with the limit that it was handed
-scan-is : (c : tie.After-first-refused) → c .first-refused .result ≡ firstRefused bandLimit (c .before .before .before .before .before .before .before .before .args .factors .now)
+scan-is : (c : tie.After-first-refused) → c .first-refused .result ≡ answerOf (elementQuestions (Factor bandLimit) 0 (c .before .before .before .before .before .before .before .before .args .factors .now))
 scan-is c = c .first-refused .ensures ∙ rw (c .before .band-limit .ensures)
 
 -- the count is one of the two
@@ -45,11 +46,8 @@ band-limit-requires c κs = search needs
 first-refused-requires : tie.Need-first-refused-requires
 first-refused-requires c κs = rw (c .band-limit .ensures) limit-finite
 
-enum-known-place : tie.Need-enum-known-place
-enum-known-place c = search needs
-
-enum-known-place-2 : tie.Need-enum-known-place-2
-enum-known-place-2 c = search needs
+enum-known-number : tie.Need-enum-known-number
+enum-known-number c = search needs
 
 enum-told : tie.Need-enum-told
 enum-told c = search needs
@@ -65,23 +63,18 @@ interpolate-requires c κs =
 returns-4 : tie.Need-returns-4
 returns-4 c =
     let e = c .before .before .before .before .before in
-    (by-factors _ _ _ (counted (e .before .before)) (e .before .if2 .left) (e .if3 .left) (not-finite-factor _ _ _ (sym (c .before .place .given .1) ∙ scan-is (c .before .before .before))), refl)
-
-returns-5 : tie.Need-returns-5
-returns-5 c =
-    let e = c .before .before .before .before .before in
-    (by-factors _ _ _ (counted (e .before .before)) (e .before .if2 .left) (e .if3 .left) (too-far-factor _ _ _ (sym (c .before .place2 .given .1) ∙ scan-is (c .before .before .before))), refl)
+    (by-factors _ _ _ (counted (e .before .before)) (e .before .if2 .left) (e .if3 .left) (sym (c .before .number .given .1) ∙ scan-is (c .before .before .before)), refl)
 
 same-length : tie.Need-same-length
 same-length c = search needs
 
-returns-6 : tie.Need-returns-6
-returns-6 c =
+returns-5 : tie.Need-returns-5
+returns-5 c =
     let i = c .before .before in
     let e = i .before .before .before .before .before .before .before .before in
-    (by-factors _ _ _ (counted (e .before .before)) (e .before .if2 .left) (e .if3 .left) (factors-taken _ _ (sym (i .before .before .before .before .enum-told .given .1) ∙ scan-is (i .before .before .before .before .before .before))), i .interpolate .ensures ∙ rw (i .before .before .before .sixteen .ensures, e .if3 .left))
+    (by-factors _ _ _ (counted (e .before .before)) (e .before .if2 .left) (e .if3 .left) (sym (i .before .before .before .before .enum-told .given .1) ∙ scan-is (i .before .before .before .before .before .before)), i .interpolate .ensures ∙ rw (i .before .before .before .sixteen .ensures, e .if3 .left))
 
 pub interpolate-spec : {M : Type 1} → statement M
 interpolate-spec =
     tie.close
-    (tie.spec count-ok-requires returns returns-2 returns-3 band-limit-requires first-refused-requires enum-known-place enum-known-place-2 enum-told sixteen-requires interpolate-requires returns-4 returns-5 same-length returns-6)
+    (tie.spec count-ok-requires returns returns-2 returns-3 band-limit-requires first-refused-requires enum-known-number enum-told sixteen-requires interpolate-requires returns-4 same-length returns-5)
