@@ -118,7 +118,7 @@ refused-exactly qs number place = (there, first number place qs)
         ∙ skipped (f .before) (ask number place true ∷ f .after) (f .none-before)
         ∙ sym (given number place true (f .after) refl)
 
-not-yes : (b : Bool) → T (not b) → b ≡ false
+pub not-yes : (b : Bool) → T (not b) → b ≡ false
 not-yes true t = absurd t
 not-yes false t = refl
 

@@ -8,7 +8,7 @@ use lib.Dec.{T}
 use lib.ListN.{length, getD, drop}
 use lib.Seq.{drop-cons}
 use lib.Ieee.{Float, nan}
-use borrow.Author.Tests.{not-true, not-false}
+use borrow.Author.Tests.{not-false}
 use Rattle.float_laws.specs.Kind.{finite}
 use Rattle.float_laws.specs.Size.{Within}
 use Rattle.float_laws.proofs.Logic.{yes, no}
@@ -22,7 +22,7 @@ use Rattle.refusals.specs.declared.Element.{Element}
 use Rattle.refusals.specs.declared.Element.the-variants.{Factor, Value}
 use Rattle.refusals.specs.Answers.{answerOf}
 use Rattle.refusals.specs.Elements.{elementAsked, elementQuestions}
-use Rattle.refusals.proofs.Answers.{none-left, not-given, done, andThen, appended, first-done, both-done}
+use Rattle.refusals.proofs.Answers.{none-left, not-given, done, andThen, appended, first-done, both-done, not-yes}
 
 -- ---- what is left from i on starts with the element at i
 pub element-at : (element : Element) (xs : List Float) (i : ℕ) (r : Answer) → i < length xs → r ≡ answerOf (elementAsked element i (getD xs i nan))
@@ -49,7 +49,7 @@ is false t = absurd t
 one-done : (element : Element) (place : ℕ) (x : Float) → T (takenAs element x) → Done ≡ answerOf (elementAsked element place x)
 one-done (Factor limit) place x t =
     not-given 7 place _ _ (ap not (is (finite x) (both-left (finite x) (not (beyond limit x)) t)))
-    (not-given 8 place _ _ (not-true _ (is _ (both-right (finite x) (not (beyond limit x)) t))) none-left)
+    (not-given 8 place _ _ (not-yes _ (both-right (finite x) (not (beyond limit x)) t)) none-left)
 one-done Value place x t = not-given 12 place _ _ (ap not (is (finite x) t)) none-left
 
 done-one : (element : Element) (place : ℕ) (x : Float) → answerOf (elementAsked element place x) ≡ Done → T (takenAs element x)
@@ -78,4 +78,4 @@ pub within-limit : (xs : List Float) → answerOf (elementQuestions (Factor fact
 within-limit xs e i h =
     let x = getD xs i nan in
     let t = at nan (takenAs (Factor factorLimit)) xs (done-all (Factor factorLimit) 0 xs e) i h in
-    factor.within-limit x (both-left (finite x) (not (beyond factorLimit x)) t) (not-true _ (is _ (both-right (finite x) (not (beyond factorLimit x)) t)))
+    factor.within-limit x (both-left (finite x) (not (beyond factorLimit x)) t) (not-yes _ (both-right (finite x) (not (beyond factorLimit x)) t))

@@ -1,4 +1,4 @@
-// What a public call answers where it gives nothing back but a filled buffer, and the scan of a lent row that all calls
+// What a public call answers where it gives nothing back but a filled buffer, and the scan of a lent row that the calls
 // share. When a call says no is written in specs/, as its questions in their order; the calls themselves stand in a crate
 // each.
 use factor::Checked;
@@ -20,7 +20,7 @@ pub enum Element {
     Value,
 }
 
-// The answer for the element at a place: the one spot where an element's numbers stand.
+// The answer for one element at its place. The numbers of elements stand here and nowhere else.
 fn element_refusal(x: f32, place: usize, element: Element) -> Answer
     requires { ⌜ T (limitFinite element) ⌝ }
     ensures { λ r. ⌜ r ≡ answerOf (elementAsked element place x) ⌝ }

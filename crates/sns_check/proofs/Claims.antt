@@ -1,7 +1,6 @@
 -- The claims of specs/Claims.antt. Assumes nothing.
 use mathlib.Core.Path.{_≡_, refl, sym, _∙_}
 use mathlib.Core.Bool.{Bool, true, false, not, cond}
-use lib.Ieee.{Float}
 use Rattle.float_laws.specs.Kind.{finite}
 use Rattle.factor.specs.Check.{beyond}
 use Rattle.refusals.specs.declared.Answer.the-variants.{Done, No}

@@ -1,5 +1,5 @@
 -- By what the element is: a factor's check in the words of the refusals, or whether a value is finite.
-use mathlib.Core.Path.{_≡_, refl, sym, ap, _∙_, subst}
+use mathlib.Core.Path.{_≡_, refl, sym, _∙_, subst}
 use mathlib.Core.Bool.{Bool, true, false, not, cond}
 use Prim.Native.Nat.{ℕ}
 use borrow.Author.Needs.{needs}

@@ -1,10 +1,18 @@
 -- Each answer by the questions that led to it; the factors' questions are answered by the scan.
-use mathlib.Core.Path.{_∙_}
+use mathlib.Core.Path.{_≡_, _∙_}
 use borrow.Author.Needs.{needs}
+use Rattle.factor.specs.Check.{factorLimit}
 use Rattle.factor.proofs.Laws.{limit-finite}
+use Rattle.refusals.specs.declared.Element.the-variants.{Factor}
+use Rattle.refusals.specs.Answers.{answerOf}
+use Rattle.refusals.specs.Elements.{elementQuestions}
 use Rattle.sns_encode.proofs.EncodeAnswers.{no-9-factors, no-9-out, by-factors}
 use Rattle.sns_encode.proofs.refusal.Statement.{statement}
 use Rattle.sns_encode.proofs.refusal.Tie as tie
+
+-- the scan's result, with the limit that it was handed
+scan-is : (c : tie.After-first-refused) → c .first-refused .result ≡ answerOf (elementQuestions (Factor factorLimit) 0 (c .before .before .before .before .before .args .factors .now))
+scan-is c = c .first-refused .ensures ∙ rw (c .before .factor-limit .ensures)
 
 returns : tie.Need-returns
 returns c = no-9-factors _ _ (c .if1 .taken)
@@ -19,9 +27,7 @@ first-refused-requires : tie.Need-first-refused-requires
 first-refused-requires c κs = rw (c .factor-limit .ensures) limit-finite
 
 returns-3 : tie.Need-returns-3
-returns-3 c =
-    let e = c .before .before in
-    by-factors _ _ (e .before .if1 .left) (e .if2 .left) (c .first-refused .ensures ∙ rw (c .before .factor-limit .ensures))
+returns-3 c = let e = c .before .before in by-factors _ _ (e .before .if1 .left) (e .if2 .left) (scan-is c)
 
 pub refusal-spec : {M : Type 1} → statement M
 refusal-spec = tie.close (tie.spec returns returns-2 factor-limit-requires first-refused-requires returns-3)
