@@ -33,9 +33,10 @@ fn element_refusal(x: f32, place: usize, element: Element) -> Answer
         },
         Element::Value => {
             if factor::is_finite(x) {
-                return Answer::Done;
+                Answer::Done
+            } else {
+                Answer::No(12, place)
             }
-            Answer::No(12, place)
         }
     }
 }

@@ -68,26 +68,29 @@ checked c k e =
     as-factor (a .element) _ (a .x) (a .place) k (c .before .before .element .given .1) (sym e ∙ c .check-against .ensures)
 
 returns : tie.Need-returns
-returns c =
-    let a = c .before .before .before .before .args in
-    as-value (a .element) (a .x) (a .place) true (c .before .before .enum-told4 .given .1) (sym (c .if1 .taken) ∙ c .before .is-finite .ensures)
+unfolding checkedAs
+returns c = checked (c .before .before) _ (c .enum-told .given .1)
 
 returns-2 : tie.Need-returns-2
 unfolding checkedAs
-returns-2 c = checked (c .before .before) _ (c .enum-told .given .1)
+returns-2 c = checked (c .before .before) _ (c .enum-told2 .given .1)
 
 returns-3 : tie.Need-returns-3
 unfolding checkedAs
-returns-3 c = checked (c .before .before) _ (c .enum-told2 .given .1)
+returns-3 c = checked (c .before .before) _ (c .enum-told3 .given .1)
+
+-- what the test has answered
+tested : (c : tie.After-is-finite) (f : Bool) → c .is-finite .result ≡ f
+    → let a = c .before .before .before .args in cond f Done (No 12 (a .place)) ≡ answerOf (elementAsked (a .element) (a .place) (a .x))
+tested c f e =
+    let a = c .before .before .before .args in
+    as-value (a .element) (a .x) (a .place) f (c .before .enum-told4 .given .1) (sym e ∙ c .is-finite .ensures)
 
 returns-4 : tie.Need-returns-4
-unfolding checkedAs
-returns-4 c = checked (c .before .before) _ (c .enum-told3 .given .1)
+returns-4 c = tested (c .before) true (c .if1 .taken)
 
 returns-5 : tie.Need-returns-5
-returns-5 c =
-    let a = c .before .before .before .before .args in
-    as-value (a .element) (a .x) (a .place) false (c .before .before .enum-told4 .given .1) (sym (c .if1 .left) ∙ c .before .is-finite .ensures)
+returns-5 c = tested (c .before) false (c .if1 .left)
 
 pub element-refusal-spec : {M : Type 1} → statement M
 element-refusal-spec =
