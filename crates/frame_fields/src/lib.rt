@@ -1,5 +1,5 @@
-// What a quantized frame holds, which both ends and the cab field speak of: its fields, the numbers among them, and the
-// joint index. When fields are accepted is in specs/Accepted. Public for the crates above only; the result is pinned.
+// What a quantized frame holds, which both ends speak of: its fields, the numbers among them, and the joint index. When
+// fields are accepted is in specs/Accepted. Public for the crates above only; the result is pinned.
 ghost use mathlib.Core.Path.{_≡_};
 ghost use Prim.Native.Nat.{_<_};
 ghost use Rattle.frame_fields.specs.Accepted.{Indexed};

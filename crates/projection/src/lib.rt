@@ -83,27 +83,6 @@ fn projected(abs_x: &[f32; 16], factor: f32) -> [u8; 16]
     y
 }
 
-fn wide(x: u8) -> usize
-    ensures is { λ r. ⌜ r ≡ x ⌝ }
-    ensures small { λ r. ⌜ r ≤ 255 ⌝ }
-{
-    x as usize
-}
-
-// The pulses of the first n places.
-pub fn total(y: &[u8; 16], n: usize) -> usize
-    requires { ⌜ n ≤ 16 ⌝ }
-    ensures { λ r. ⌜ r ≡ totalTo (now (y .entry)) n ⌝ }
-{
-    let mut k = 0usize;
-    let mut i = 0usize;
-    while i < n {
-        k = k + wide(y[i]);
-        i += 1;
-    }
-    k
-}
-
 // A place's two terms, added where its pulses are not zero.
 fn join(r: SearchRecord, pulses: u8, x: f32) -> SearchRecord
     ensures { λ p. ⌜ p ≡ joined r pulses x ⌝ }
@@ -165,7 +144,7 @@ pub fn project(abs_x: &[f32; 16]) -> Start
         return nothing();
     }
     let y = projected(abs_x, factor);
-    let k = total(&y, 16);
+    let k = pulse_search::total(&y, 16);
     if 6 < k {
         return nothing();
     }

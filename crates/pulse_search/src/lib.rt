@@ -74,6 +74,28 @@ fn best_place(
     g
 }
 
+// The pulses of a place as a wider number.
+pub fn wide(x: u8) -> usize
+    ensures is { λ r. ⌜ r ≡ x ⌝ }
+    ensures small { λ r. ⌜ r ≤ 255 ⌝ }
+{
+    x as usize
+}
+
+// The pulses of the first n places.
+pub fn total(y: &[u8; 16], n: usize) -> usize
+    requires { ⌜ n ≤ 16 ⌝ }
+    ensures { λ r. ⌜ r ≡ totalTo (now (y .entry)) n ⌝ }
+{
+    let mut k = 0usize;
+    let mut i = 0usize;
+    while i < n {
+        k = k + wide(y[i]);
+        i += 1;
+    }
+    k
+}
+
 // From k pulses up to k_max, over places 0 to last; answers their pair, from which the next shape goes on.
 pub fn add_unit_pulse(
     abs_x: &[f32; 16],

@@ -7,7 +7,7 @@ ghost use Rattle.projection.specs.Projection.{Absolutes};
 ghost use Rattle.shape_search.specs.Shape.{lowOf, dropped, droppedTo, largestTo, shapePulses};
 use pulse_search::SearchRecord;
 
-// And subtracted.
+// A place's two terms, subtracted where its pulses are not zero.
 fn leave(r: SearchRecord, pulses: u8, x: f32) -> SearchRecord
     ensures { λ p. ⌜ p ≡ dropped r pulses x ⌝ }
 {
@@ -79,7 +79,7 @@ pub fn search_shapes(abs_x: &[f32; 16]) -> [[u8; 16]; 4]
     let mut y1 = low_places(&y2);
     let r = without_high(abs_x, &y2, r);
     // step 6, shape 1: add unit pulses up to 10 over places 0 to 9
-    let k = projection::total(&y1, 10);
+    let k = pulse_search::total(&y1, 10);
     pulse_search::add_unit_pulse(abs_x, 9, k, 10, &mut y1, r);
     // step 7, shape 0: one pulse more on places 10 to 15
     let mut y0 = y1;

@@ -15,7 +15,7 @@ pub fn decode(fields: Fields, factors: &mut [f32]) -> Answer
     match field_refusal(fields) {
         Answer::No(number, place) => Answer::No(number, place),
         Answer::Done => {
-            rows::fill(decoder::factors(fields), factors);
+            lent_rows::fill(decoder::factors(fields), factors);
             Answer::Done
         }
     }
@@ -31,7 +31,7 @@ pub fn decode_pulses(fields: Fields, pulses: &mut [i32]) -> Answer
     match field_refusal(fields) {
         Answer::No(number, place) => Answer::No(number, place),
         Answer::Done => {
-            rows::fill_pulses(decoder::pulses(fields), pulses);
+            lent_rows::fill_pulses(decoder::pulses(fields), pulses);
             Answer::Done
         }
     }

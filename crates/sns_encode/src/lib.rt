@@ -79,10 +79,10 @@ pub fn encode(factors: &[f32], out: &mut [f32]) -> Encoded
     match refusal(factors, out.len()) {
         Answer::No(number, place) => refused(number, place),
         Answer::Done => {
-            let q = encoder::run_quant(&rows::sixteen(factors));
+            let q = encoder::run_quant(&lent_rows::sixteen(factors));
             let rest = q.stage2;
             let scfq = rest.scfq;
-            rows::fill(scfq, out);
+            lent_rows::fill(scfq, out);
             answer_of(q)
         }
     }

@@ -20,7 +20,7 @@ pub fn interpolate(factors: &[f32], band_count: u32, bands: &mut [f32]) -> Answe
     match refusals::first_refused(factors, Element::Factor(interpolation::band_limit())) {
         Answer::No(number, place) => Answer::No(number, place),
         Answer::Done => {
-            interpolation::interpolate(&rows::sixteen(factors), bands);
+            interpolation::interpolate(&lent_rows::sixteen(factors), bands);
             Answer::Done
         }
     }

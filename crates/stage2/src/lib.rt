@@ -25,13 +25,6 @@ fn sign_of(t: f32) -> u32
     if t < 0.0 { 1 } else { 0 }
 }
 
-fn wide(x: u8) -> usize
-    ensures is { λ r. ⌜ r ≡ x ⌝ }
-    ensures small { λ r. ⌜ r < 256 ⌝ }
-{
-    x as usize
-}
-
 // The pulses of a shape, with signs.
 fn signed_row(t2rot: &[f32; 16], y: &[[u8; 16]; 4], shape: usize) -> [i32; 16]
     requires { ⌜ shape < 4 ⌝ }
@@ -40,7 +33,7 @@ fn signed_row(t2rot: &[f32; 16], y: &[[u8; 16]; 4], shape: usize) -> [i32; 16]
     let mut v = [0i32; 16];
     let mut n = 0usize;
     while n < 16 {
-        v[n] = numbering::mind2vec_one(wide(y[shape][n]), sign_of(t2rot[n]));
+        v[n] = numbering::mind2vec_one(pulse_search::wide(y[shape][n]), sign_of(t2rot[n]));
         n += 1;
     }
     v

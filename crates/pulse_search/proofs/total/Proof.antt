@@ -5,9 +5,9 @@ use native.Mathlib.Omega.{arith}
 use native.Mathlib.Numerals.{add-one}
 use borrow.Author.Needs.{needs}
 use lib.ListN.{getD}
 use Rattle.pulse_search.specs.Pulse.{sumOver, totalTo}
-use Rattle.projection.proofs.total.Statement.{statement}
-use Rattle.projection.proofs.total.Tie as tie
+use Rattle.pulse_search.proofs.total.Statement.{statement}
+use Rattle.pulse_search.proofs.total.Tie as tie
 
 abbrev Inv-loop : tie.InvT-loop
 Inv-loop y n k₀ i₀ k i = (i ≤ n) × (k ≡ totalTo y i) × (k ≤ 255 * i)

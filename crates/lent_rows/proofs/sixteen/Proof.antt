@@ -8,8 +8,8 @@ use Rattle.list_laws.proofs.ListOf.{is-listOf}
 use Rattle.list_laws.proofs.Fill.{over, over-none, over-more}
 use Rattle.list_laws.proofs.Full.{full}
 use borrow.Author.Needs.{needs}
-use Rattle.rows.proofs.sixteen.Statement.{statement}
-use Rattle.rows.proofs.sixteen.Tie as tie
+use Rattle.lent_rows.proofs.sixteen.Statement.{statement}
+use Rattle.lent_rows.proofs.sixteen.Tie as tie
 
 abbrev Inv-loop : tie.InvT-loop
 Inv-loop row copy₀ n₀ copy n = (n ≤ 16) × (length copy ≡ 16) × (copy ≡ over (λ i. getD row i nan) n copy₀)

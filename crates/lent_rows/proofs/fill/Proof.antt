@@ -8,8 +8,8 @@ use Rattle.list_laws.proofs.ListOf.{is-listOf}
 use Rattle.list_laws.proofs.Fill.{over, over-none, over-more}
 use Rattle.list_laws.proofs.Full.{full}
 use borrow.Author.Needs.{needs}
-use Rattle.rows.proofs.fill.Statement.{statement}
-use Rattle.rows.proofs.fill.Tie as tie
+use Rattle.lent_rows.proofs.fill.Statement.{statement}
+use Rattle.lent_rows.proofs.fill.Tie as tie
 
 abbrev Inv-loop : tie.InvT-loop
 Inv-loop to₀ from i₀ to i = (i ≤ 16) × (length to ≡ 16) × (to ≡ over (λ k. getD from k nan) i to₀)

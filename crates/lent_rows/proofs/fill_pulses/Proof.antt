@@ -10,8 +10,8 @@ use Rattle.list_laws.proofs.ListOf.{is-listOf}
 use Rattle.list_laws.proofs.Fill.{over, over-none, over-more}
 use Rattle.list_laws.proofs.Full.{full}
 use borrow.Author.Needs.{needs}
-use Rattle.rows.proofs.fill_pulses.Statement.{statement}
-use Rattle.rows.proofs.fill_pulses.Tie as tie
+use Rattle.lent_rows.proofs.fill_pulses.Statement.{statement}
+use Rattle.lent_rows.proofs.fill_pulses.Tie as tie
 
 abbrev Inv-loop : tie.InvT-loop
 Inv-loop to₀ from n₀ to n = (n ≤ 16) × (length to ≡ 16) × (to ≡ over (λ i. getD from i (pos 0)) n to₀)
