@@ -10,7 +10,7 @@ use lib.IntN.{pos}
 use lib.ListN.{getD}
 use lib.Ieee.{Float, nan, binary32, ofInt, sub, mul, div}
 use Rattle.float_laws.specs.Bounded.{AllFinite, Bounded}
-use Rattle.float_laws.specs.Kind.{finite, plain}
+use Rattle.float_laws.specs.Kind.{plain}
 use Rattle.float_laws.specs.Least.{FirstLeast}
 use Rattle.float_laws.specs.Scan.{leastTo}
 use Rattle.float_laws.specs.Size.{Within}

@@ -6,7 +6,7 @@ use Prim.Native.Nat.{ℕ, _<_}
 use lib.Dec.{T}
 use lib.IntN.{ℤ}
 use lib.ListN.{getD}
-use lib.Ieee.{Float, nan, isNan}
+use lib.Ieee.{Float, isNan}
 use Rattle.float_laws.specs.Bounded.{AllFinite, Bounded}
 use Rattle.float_laws.specs.Least.{FirstLeast}
 use Rattle.sns_tables.specs.Gains.{gainsOf}

@@ -1,6 +1,5 @@
 -- The claims of specs/Claims.antt: accepted fields are synthesised, and so their factors are within. Assumes nothing.
-use mathlib.Core.Path.{_≡_, sym, subst}
-use Prim.Native.Nat.{ℕ}
+use mathlib.Core.Path.{sym, subst}
 use lib.Dec.{lit<, lit≤}
 use lib.ListN.{getD}
 use lib.Ieee.{Float, nan}

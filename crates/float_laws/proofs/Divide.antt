@@ -1,12 +1,12 @@
 -- A quotient by a value of at least b / d is at most (a / c) / (b / d) in size, where the format holds that bound. Assumes nothing.
 use mathlib.Core.Path.{_≡_, sym, ap, _∙_, subst}
-use Prim.Native.Nat.{ℕ, zero, _*_, _≤_, _<_}
+use Prim.Native.Nat.{ℕ, _*_, _≤_, _<_}
 use native.Mathlib.Nat.{le-trans, le-of-eq, lt-of-lt-of-le, mul-comm, mul-pos, mul-le-mul, mul-mul-mul-comm}
 use native.Mathlib.Omega.{arith}
 use borrow.Author.Tests.{ne-eqb}
 use mathlib.Core.Bool.{true, false, cond}
 use lib.Dec.{T, eqb}
-use lib.Ieee.{Float, nan, inf, fin, Format, up, down, unlike, round, div}
+use lib.Ieee.{Float, nan, inf, fin, Format, up, down, unlike, div}
 use lib.Ieee.Fits.{down-pos}
 use lib.Ieee.Positive.{first-pos, through}
 use Rattle.float_laws.specs.Size.{Within, AtLeast, exact}

@@ -1,10 +1,9 @@
 -- The cases of the joint index, as the code goes through them, and how large it gets. Assumes nothing.
-use mathlib.Core.Path.{_≡_, refl, subst}
+use mathlib.Core.Path.{_≡_, refl}
 use Prim.Native.Nat.{ℕ, zero, suc, _+_, _*_, _%_, _≤_, _<_}
 use native.Mathlib.Nat.{le-of-suc-le-suc, mod-lt}
 use native.Mathlib.Omega.{arith}
 use lib.Dec.{lit<}
-use Rattle.shapes.specs.Sets.{setA, setB}
 use Rattle.shapes.proofs.Sizes.{size-regular-a, size-regular-b, size-near, size-far}
 use Rattle.frame_fields.specs.declared.Numbers.{Numbers}
 use Rattle.frame_fields.specs.Accepted.{Indexed}

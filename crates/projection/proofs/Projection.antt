@@ -22,7 +22,7 @@ use Rattle.list_laws.specs.Some.{someBelow}
 use Rattle.list_laws.proofs.Some.{some-none, some-or}
 use Rattle.pulse_search.specs.declared.SearchRecord.{SearchRecord}
 use Rattle.pulse_search.specs.Pulse.{Search, sumOver, totalTo}
-use Rattle.projection.specs.Projection.{projectionFactor, productAt, projectedOf, termsOf, withTerms, none, joinedTo, someNotFinite, someSeven, totalOverSix, zeros, whole, nothing, projection, Absolutes, AllBelowSeven, begunOf}
+use Rattle.projection.specs.Projection.{projectionFactor, productAt, projectedOf, termsOf, withTerms, joinedTo, someNotFinite, someSeven, totalOverSix, zeros, whole, nothing, projection, Absolutes, AllBelowSeven, begunOf}
 use Rattle.projection.specs.declared.Start.{Start}
 
 -- ---- no product has a minus sign

@@ -6,7 +6,7 @@ use Prim.Native.Nat.{ℕ, zero, suc, _<_}
 use lib.Dec.{T, ltb}
 use lib.IntN.{pos}
 use lib.ListN.{getD}
-use lib.Ieee.{Float, nan, binary32, ofBits, ofInt, add, mul, div, lt, le}
+use lib.Ieee.{Float, nan, binary32, ofInt, add, mul, div, lt, le}
 use Rattle.float_laws.specs.Absolute.{absOf}
 use Rattle.float_laws.specs.Kind.{finite}
 use Rattle.float_laws.specs.Literal.{nought, five, seven}

@@ -2,7 +2,7 @@
 // definition.
 ghost use mathlib.Core.Path.{_≡_};
 ghost use mathlib.Core.Bool.{_||_};
-ghost use Prim.Native.Nat.{_*_, _<_, _≤_};
+ghost use Prim.Native.Nat.{_*_, _<_};
 ghost use lib.Dec.{T};
 ghost use lib.ListN.{getD};
 ghost use lib.Ieee.{nan, lt};
@@ -10,7 +10,6 @@ ghost use Rattle.float_laws.specs.Absolute.{absOf};
 ghost use Rattle.float_laws.specs.Floor.{floorOf};
 ghost use Rattle.float_laws.specs.Running.{sumTo};
 ghost use Rattle.float_laws.specs.Literal.{seven};
-ghost use Rattle.pulse_search.specs.Pulse.{totalTo};
 ghost use Rattle.projection.specs.Projection.{projectionFactor, projectedOf, joined, joinedTo, someNotFinite, someSeven, nothing, projection, begunOf, Absolutes, AllBelowSeven};
 use pulse_search::SearchRecord;
 

@@ -6,7 +6,6 @@ use Prim.Native.Nat.{ℕ, zero, suc, _+_, _≤_, _<_}
 use native.Mathlib.Nat.{le-trans, le-of-suc-le-suc, eq-or-lt-of-le, not-suc-le-zero}
 use native.Mathlib.Numerals.{add-one}
 use native.Mathlib.Omega.{arith}
-use lib.Dec.{T}
 use Rattle.pulse_guess.specs.Lanes.{countTo}
 
 pub count-yes : (f : ℕ → Bool) (n c : ℕ) → c ≡ countTo f n → f n ≡ true → c + 1 ≡ countTo f (n + 1)

@@ -2,7 +2,7 @@
 // place. Then the scan takes it too; where the test fails, the caller scans. Each loop is one over sixteen lanes.
 ghost use mathlib.Core.Path.{_≡_};
 ghost use mathlib.Core.Bool.{cond};
-ghost use Prim.Native.Nat.{_<_, _≤_};
+ghost use Prim.Native.Nat.{_<_};
 ghost use lib.Dec.{leb};
 ghost use Rattle.float_laws.specs.Literal.{nought};
 ghost use Rattle.pulse_guess.specs.Lanes.{firstOf, squaredLanes, energiesOf, unbeatenBy, countTo};

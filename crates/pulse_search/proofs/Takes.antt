@@ -1,10 +1,8 @@
 -- A place that strictly beats every other is the one that the scan takes: by the asymmetry of `<` alone. Assumes nothing.
-use mathlib.Core.Path.{_≡_, refl, sym, ap, _∙_, subst}
-use mathlib.Core.Logic.{inl, inr}
+use mathlib.Core.Path.{_≡_, refl, sym, ap, _∙_}
 use mathlib.Core.Bool.{Bool, true, false, cond}
 use mathlib.Core.List.{List}
-use Prim.Native.Nat.{ℕ, zero, suc, _≤_, _<_}
-use native.Mathlib.Nat.{le-refl, le-trans, le-suc, le-of-suc-le-suc, eq-or-lt-of-le}
+use Prim.Native.Nat.{ℕ, _≤_, _<_}
 use native.Mathlib.Omega.{arith}
 use borrow.Author.Tests.{le-leb, not-true, not-false}
 use lib.Dec.{T, leb}
@@ -18,7 +16,6 @@ use Rattle.list_laws.proofs.ListOf.{getD-listOf}
 use Rattle.pulse_search.specs.declared.SearchRecord.{SearchRecord}
 use Rattle.pulse_search.specs.Pulse.{pairAt, replaces, bestTo}
 use Rattle.pulse_guess.specs.Lanes.{amount, firstOf, squaredLanes, energiesOf, unbeatenBy, countTo}
-use Rattle.pulse_search.proofs.Laws.{best-le}
 use Rattle.pulse_guess.proofs.Counted.{only-one}
 
 holds : (b : Bool) → T b → b ≡ true

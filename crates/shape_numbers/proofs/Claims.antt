@@ -5,7 +5,7 @@ use Prim.Native.Nat.{ℕ, zero, suc, _-_, _<_}
 use native.Mathlib.Nat.{zero-add}
 use native.Mathlib.Omega.{arith}
 use lib.IntN.{ℤ, pos, negsuc, natAbs}
-use lib.ListN.{length, take, drop, replicate, length-replicate, take-append-drop}
+use lib.ListN.{length, replicate, length-replicate, take-append-drop}
 use lib.Seq.{take-at, drop-at}
 use Rattle.shapes.specs.declared.PulseSet.{PulseSet}
 use Rattle.shapes.specs.Sets.{setA, setB}
@@ -16,7 +16,7 @@ use Rattle.numbering.proofs.Claims.{claim}
 use Rattle.frame_fields.specs.declared.Numbers.{Numbers}
 use Rattle.frame_fields.specs.Accepted.{Indexed}
 use Rattle.shape_numbers.specs.Pulses.{partA, afterA, restPulses, Shaped, restAt, pulsesAt}
-use Rattle.shape_numbers.specs.Numbers.{ofB, numbersOf, inUse}
+use Rattle.shape_numbers.specs.Numbers.{ofB, numbersOf}
 use Rattle.shape_numbers.specs.Claims.{NumbersIndexed, PulsesAgain, PulsesShaped, NumbersAgain}
 
 -- ---- each set is numbered one to one, below its size

@@ -1,18 +1,17 @@
 -- How many pulses each shape has, for every a, and its squared length. Assumes nothing.
 use mathlib.Core.Path.{_≡_, refl, sym, ap, _∙_, subst}
-use mathlib.Core.Bool.{Bool, true, false, not, _||_, cond}
+use mathlib.Core.Bool.{Bool, cond}
 use mathlib.Core.List.{List}
-use Prim.Native.Nat.{ℕ, zero, suc, _+_, _-_, _*_, _≤_, _<_}
+use Prim.Native.Nat.{ℕ, suc, _+_, _-_, _≤_, _<_}
 use native.Mathlib.Nat.{le-refl, le-trans, le-of-eq}
 use native.Mathlib.Omega.{arith}
 use borrow.Author.Tests.{lt-ltb, le-ltb}
-use lib.Dec.{T, ltb, nltb→le, lit<, lit≤}
+use lib.Dec.{ltb, lit<, lit≤}
 use lib.ListN.{length, getD, length-set}
 use lib.Ieee.{Float, nan, lt}
 use Rattle.float_laws.proofs.Scan.{scan-under}
-use Rattle.list_laws.specs.ListOf.{listOf}
 use Rattle.list_laws.proofs.ListOf.{length-listOf, getD-listOf}
-use Rattle.pulse_search.specs.Pulse.{Search, start, sumOver, totalTo, squareTo, missing, upTo}
+use Rattle.pulse_search.specs.Pulse.{Search, sumOver, totalTo, missing, upTo}
 use Rattle.pulse_search.proofs.Sums.{sum-same, sum-past, sum-set, sum-grow, sum-flat}
 use Rattle.pulse_search.proofs.Laws.{more-length, more-total, more-past}
 use Rattle.projection.specs.Projection.{projection}

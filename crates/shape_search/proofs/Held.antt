@@ -1,11 +1,10 @@
 -- Each search starts with a pair that belongs to its pulses, so the record does after every pulse; and shapes 3 and 2 are one search. Assumes nothing.
 use mathlib.Core.Path.{_≡_, refl, sym, ap, _∙_}
-use mathlib.Core.Bool.{_||_}
 use mathlib.Core.List.{List}
 use Prim.Native.Nat.{ℕ, zero, suc, _+_, _-_, _*_, _≤_, _<_}
 use native.Mathlib.Nat.{le-refl, le-trans, le-suc, le-of-eq, mul-le-mul}
 use native.Mathlib.Omega.{arith}
-use lib.Dec.{ltb, nltb→le, lit<, lit≤}
+use lib.Dec.{lit<, lit≤}
 use lib.IntN.{pos}
 use lib.ListN.{getD}
 use lib.Ieee.{Float, nan, binary32, ofBits, ofInt, add, sub, mul}

@@ -1,12 +1,11 @@
 -- No NaN and no infinity in any comparison of the three searches, for targets of at most 16384 in size: correlations are bounded by the
 -- pulses counted, and energies are sums of squares. Assumes nothing.
 use mathlib.Core.Path.{_≡_, sym, ap, _∙_, subst}
-use mathlib.Core.Bool.{_||_}
 use mathlib.Core.List.{List}
 use Prim.Native.Nat.{ℕ, zero, suc, _+_, _-_, _*_, _^_, _≤_, _<_, zero-le}
 use native.Mathlib.Nat.{le-refl, le-trans, le-suc, le-of-eq, mul-comm}
 use native.Mathlib.Omega.{arith}
-use lib.Dec.{T, ltb, nltb→le, lit<, lit≤}
+use lib.Dec.{T, lit<, lit≤}
 use lib.IntN.{pos}
 use lib.ListN.{length, getD, set}
 use lib.Ieee.{Float, nan, binary32, ofBits, ofInt, round, add, sub, mul}

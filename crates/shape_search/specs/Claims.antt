@@ -1,16 +1,15 @@
 -- What is shown of the shapes. Definitions only; the proofs are in proofs/Claims, proofs/Held, proofs/Corner and proofs/Sized.
 use mathlib.Core.Path.{_≡_}
 use mathlib.Core.List.{List, [], _∷_}
-use Prim.Native.Nat.{ℕ, _≤_, _<_}
+use Prim.Native.Nat.{ℕ, _<_}
 use lib.Dec.{T}
 use lib.IntN.{pos, negsuc}
-use lib.ListN.{length}
 use lib.Ieee.{Float, binary32, ofInt, mul}
 use Rattle.float_laws.specs.Bounded.{Bounded}
 use Rattle.float_laws.specs.Kind.{finite}
 use Rattle.float_laws.specs.Literal.{nought, squared}
 use Rattle.list_laws.specs.ListOf.{listOf}
-use Rattle.pulse_search.specs.Pulse.{pairAt, Search, start, more, missing, upTo, totalTo, squareTo}
+use Rattle.pulse_search.specs.Pulse.{pairAt, Search, start, more, missing, upTo, totalTo}
 use Rattle.pulse_search.specs.Claims.{Belongs, Held}
 use Rattle.projection.specs.Projection.{zeros, projection}
 use Rattle.shape_search.specs.Shape.{shape3, shape2, lowered, shape1, shapePulses}

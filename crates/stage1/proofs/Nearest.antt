@@ -6,8 +6,7 @@ use Prim.Native.Nat.{ℕ, _+_, _<_}
 use native.Mathlib.Nat.{le-refl}
 use native.Mathlib.Omega.{arith}
 use lib.Dec.{T}
-use lib.ListN.{getD}
-use lib.Ieee.{Float, nan, binary32, sub, isNan}
+use lib.Ieee.{Float, binary32, sub, isNan}
 use Rattle.float_laws.specs.Kind.{finite}
 use Rattle.float_laws.specs.Bounded.{AllFinite}
 use Rattle.float_laws.proofs.NoNan.{plain-no-nan, finite-no-nan, sub-no-nan, square-plain}

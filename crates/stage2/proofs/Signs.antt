@@ -14,13 +14,13 @@ use Rattle.shapes.specs.Sets.{setA}
 use Rattle.shapes.proofs.Sets.{a-sound}
 use Rattle.numbering.specs.Numbering.{pulsesOf, PulseVector, signed}
 use Rattle.numbering.proofs.Counts.{pulses-append, pulses-next}
-use Rattle.shape_numbers.specs.Pulses.{restPulses, Shaped}
+use Rattle.shape_numbers.specs.Pulses.{restPulses}
 use Rattle.pulse_search.specs.Pulse.{totalTo}
 use Rattle.pulse_search.proofs.Sums.{total-suc, total-zero}
 use Rattle.shape_search.specs.Shape.{shapePulses}
 use Rattle.shape_search.proofs.Facts.{zero-low, zero-total, one-low, one-total, two-total, three-total}
 use Rattle.stage2_target.specs.Target.{absolutesOf}
-use Rattle.stage2.specs.Stage2.{signOf, signedRow, pulsesFor, signedFor}
+use Rattle.stage2.specs.Stage2.{signOf, signedRow, pulsesFor}
 use Rattle.stage2.specs.Claims.{SignedShaped}
 
 -- a sign changes no size

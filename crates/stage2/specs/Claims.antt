@@ -5,7 +5,7 @@ use mathlib.Core.List.{List, []}
 use Prim.Native.Nat.{ℕ, _≤_, _<_}
 use lib.Dec.{T}
 use lib.ListN.{getD}
-use lib.Ieee.{Float, nan, lt}
+use lib.Ieee.{Float, lt}
 use Rattle.float_laws.specs.Bounded.{AllFinite, Bounded}
 use Rattle.float_laws.specs.Least.{FirstLeast}
 use Rattle.sns_tables.specs.Gains.{gainsOf, gainAt}

@@ -1,17 +1,15 @@
 -- One step of each sum and of each list that a loop makes. Assumes nothing.
-use mathlib.Core.Path.{_≡_, refl, sym, _∙_}
+use mathlib.Core.Path.{_≡_, refl}
 use mathlib.Core.List.{List, []}
-use Prim.Native.Nat.{ℕ, _+_, _-_, _*_, _≤_, _<_}
+use Prim.Native.Nat.{ℕ, _+_, _-_, _<_}
 use native.Mathlib.Numerals.{add-one}
 use native.Mathlib.Omega.{arith}
 use borrow.Author.Tests.{lt-ltb, le-ltb}
-use lib.IntN.{ℤ, pos, natAbs}
-use lib.ListN.{length, getD, drop, set, length-map, List·getD-map, drop-of-length-le}
-use lib.Seq.{drop-cons}
-use lib.Ieee.{Float, nan, binary32, ofBits, ofInt, add, mul}
-use Rattle.float_laws.specs.Decimal.{plus}
+use lib.IntN.{ℤ}
+use lib.ListN.{getD, set}
+use lib.Ieee.{Float, nan, binary32, ofBits, add, mul}
 use Rattle.list_laws.specs.ListOf.{listOf}
-use Rattle.list_laws.proofs.ListOf.{is-listOf, getD-listOf, same-listOf}
+use Rattle.list_laws.proofs.ListOf.{getD-listOf, same-listOf}
 use Rattle.list_laws.proofs.Range.{Holds, holds-above, holds-below, holds-up}
 use Rattle.sns_tables.specs.Codebooks.{lfcbRows, hfcbRows, codeAt}
 use Rattle.sns_tables.specs.Rotation.{dColumns}

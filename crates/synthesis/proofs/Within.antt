@@ -10,8 +10,8 @@ use borrow.Author.Tests.{ltb-true, ltb-false}
 use lib.Dec.{T, ltb, lit<, lit≤}
 use lib.IntN.{ℤ, pos, natAbs}
 use lib.ListN.{getD, take, drop, take-append-drop}
-use lib.Seq.{take-suc, take-all}
-use lib.Ieee.{Float, nan, binary32, round, ofInt, mul, ofBits}
+use lib.Seq.{take-all}
+use lib.Ieee.{Float, nan, binary32, round, mul, ofBits}
 use Rattle.float_laws.specs.Decimal.{plus, minus}
 use Rattle.float_laws.specs.Size.{Within, withinb, exact}
 use Rattle.float_laws.proofs.Size.{within-test, within-up, mul-within, add-within}
@@ -19,7 +19,6 @@ use Rattle.float_laws.proofs.Divide.{div-within}
 use Rattle.float_laws.proofs.Whole.{int-within}
 use Rattle.list_laws.specs.Every.{every, everyBelow, everyFrom, gridFrom}
 use Rattle.list_laws.proofs.Every.{at, at-below, at-place, at-grid}
-use Rattle.list_laws.proofs.ListOf.{getD-listOf}
 use Rattle.sns_tables.specs.Codebooks.{lfcbRows, hfcbRows, codeAt}
 use Rattle.sns_tables.specs.Rotation.{dAt}
 use Rattle.sns_tables.specs.Gains.{over4096, gainRows, gainsOf, gainAt}

@@ -1,16 +1,11 @@
 -- The decoder's synthesis: the length of the pulses, the gain divided by it, and the sixteen factors. Definitions only.
-use mathlib.Core.Path.{_≡_}
-use mathlib.Core.List.{List, [], _∷_, map}
-use Prim.Native.Nat.{ℕ, zero, suc, _+_, _-_, _*_, _≤_, _<_}
-use lib.Dec.{ltb}
-use lib.IntN.{ℤ, pos, natAbs}
-use lib.ListN.{length, getD}
-use lib.Ieee.{Float, nan, binary32, ofInt, add, mul, div}
-use mathlib.Core.Bool.{cond}
-use Rattle.float_laws.specs.Decimal.{plus}
+use mathlib.Core.List.{List}
+use Prim.Native.Nat.{ℕ}
+use lib.IntN.{ℤ}
+use lib.ListN.{getD}
+use lib.Ieee.{Float, nan, binary32, add, mul, div}
 use Rattle.float_laws.specs.Running.{sumTo}
 use Rattle.list_laws.specs.ListOf.{listOf}
-use Rattle.sns_tables.specs.Codebooks.{lfcbRows, hfcbRows, codeAt}
 use Rattle.sns_tables.specs.Codes.{codeOf}
 use Rattle.sns_tables.specs.Rotation.{dAt}
 use Rattle.sns_tables.specs.Gains.{gainAt}

@@ -1,5 +1,5 @@
 -- The four rows are the list.
-use Prim.Native.Nat.{_<_, _-_}
+use Prim.Native.Nat.{_-_}
 use borrow.Author.Needs.{needs}
 use Rattle.stage2.proofs.Steps.{rows-are}
 use Rattle.stage2.proofs.add_signs.Statement.{statement}

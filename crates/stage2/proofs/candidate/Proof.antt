@@ -1,5 +1,5 @@
 -- The row of the shape has pulses of the shape, and so a length.
-use Prim.Native.Nat.{_<_, _-_}
+use Prim.Native.Nat.{_-_}
 use borrow.Author.Needs.{needs}
 use Rattle.stage2.proofs.Steps.{row-sixteen, row-candidate}
 use Rattle.stage2.proofs.candidate.Statement.{statement}
