@@ -5,8 +5,8 @@
 use frame_fields::Fields;
 use libc::STDIN_FILENO;
 use libc::STDOUT_FILENO;
-use record_text::count::one_more;
-use record_text::input;
+use program_text::count::one_more;
+use program_text::input;
 use sns::Answer;
 
 // The fields of a record, after its band count.

@@ -3,8 +3,8 @@ use mathlib.Core.Path.{sym, subst}
 use lib.Dec.{T}
 use lib.Ieee.{ofBits, neg}
 use borrow.Author.Needs.{needs}
-use Rattle.record_text.proofs.text.millionths.Statement.{statement}
-use Rattle.record_text.proofs.text.millionths.Tie as tie
+use Rattle.program_text.proofs.text.millionths.Statement.{statement}
+use Rattle.program_text.proofs.text.millionths.Tie as tie
 
 f32-to-f64-with-nan-requires : tie.Need-f32-to-f64-with-nan-requires
 f32-to-f64-with-nan-requires c κs = search needs

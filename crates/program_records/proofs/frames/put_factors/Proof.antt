@@ -1,8 +1,8 @@
 -- The text stays within its block; sixteen places.
 use Prim.Native.Nat.{_-_, _≤_}
 use borrow.Author.Needs.{needs}
-use Rattle.records.proofs.frames.put_factors.Statement.{statement}
-use Rattle.records.proofs.frames.put_factors.Tie as tie
+use Rattle.program_records.proofs.frames.put_factors.Statement.{statement}
+use Rattle.program_records.proofs.frames.put_factors.Tie as tie
 
 abbrev Inv-loop : tie.InvT-loop
 Inv-loop block₀ from x by-bits at₀ n₀ block at n = (at ≤ 65536) × Unit

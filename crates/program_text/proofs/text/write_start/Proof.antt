@@ -2,8 +2,8 @@
 use mathlib.Core.Path.{sym}
 use lib.Seq.{length-take-le}
 use borrow.Author.Needs.{needs}
-use Rattle.record_text.proofs.text.write_start.Statement.{statement}
-use Rattle.record_text.proofs.text.write_start.Tie as tie
+use Rattle.program_text.proofs.text.write_start.Statement.{statement}
+use Rattle.program_text.proofs.text.write_start.Tie as tie
 
 slice-aggregate-write-all : tie.Need-slice-aggregate-write-all
 slice-aggregate-write-all c = let s = c .before .before in sym (length-take-le _ _ (s .pre))

@@ -1,7 +1,7 @@
 -- Each turn counts one down.
 use borrow.Author.Needs.{needs}
-use Rattle.records.proofs.run.run.Statement.{statement}
-use Rattle.records.proofs.run.run.Tie as tie
+use Rattle.program_records.proofs.run.run.Statement.{statement}
+use Rattle.program_records.proofs.run.run.Tie as tie
 
 abbrev Inv-loop : tie.InvT-loop
 Inv-loop by-bits t₀ turns₀ t turns = Unit

@@ -1,8 +1,8 @@
 // Every record until the input ends, a line each, and the summary.
 use crate::frames;
 use libc::STDIN_FILENO;
-use record_text::count::one_more;
-use record_text::text;
+use program_text::count::one_more;
+use program_text::text;
 ghost use Prim.Native.Nat.{_≤_};
 
 // How many records were met and how many were refused, whether the last was cut short, and whether more may come.

@@ -1,8 +1,8 @@
 -- Sixteen words of four bytes each lie in the 64 bytes.
 use Prim.Native.Nat.{_-_, _≤_}
 use borrow.Author.Needs.{needs}
-use Rattle.record_text.proofs.input.sixteen.Statement.{statement}
-use Rattle.record_text.proofs.input.sixteen.Tie as tie
+use Rattle.program_text.proofs.input.sixteen.Statement.{statement}
+use Rattle.program_text.proofs.input.sixteen.Tie as tie
 
 abbrev Inv-loop : tie.InvT-loop
 Inv-loop block at factors₀ n₀ factors n = (n ≤ 16) × Unit

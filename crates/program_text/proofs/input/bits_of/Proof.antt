@@ -4,8 +4,8 @@ use mathlib.Core.Bool.{not, false, false≢true}
 use lib.Dec.{T}
 use lib.Ieee.{Float, nan, inf, fin, isNan, ne, eq}
 use borrow.Author.Needs.{needs}
-use Rattle.record_text.proofs.input.bits_of.Statement.{statement}
-use Rattle.record_text.proofs.input.bits_of.Tie as tie
+use Rattle.program_text.proofs.input.bits_of.Statement.{statement}
+use Rattle.program_text.proofs.input.bits_of.Tie as tie
 
 no-nan : (x : Float) → ne x x ≡ false → T (not (isNan x))
 unfolding isNan ne eq

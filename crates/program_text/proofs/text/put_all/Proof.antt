@@ -2,8 +2,8 @@
 use Prim.Native.Nat.{_-_, _≤_}
 use lib.ListN.{length}
 use borrow.Author.Needs.{needs}
-use Rattle.record_text.proofs.text.put_all.Statement.{statement}
-use Rattle.record_text.proofs.text.put_all.Tie as tie
+use Rattle.program_text.proofs.text.put_all.Statement.{statement}
+use Rattle.program_text.proofs.text.put_all.Tie as tie
 
 abbrev Inv-loop : tie.InvT-loop
 Inv-loop block₀ from bytes at₀ n₀ block at n = (at ≤ 65536) × Unit

@@ -1,8 +1,8 @@
 -- The text stays within its block, and a record that is read ends within the bytes that came.
 use Prim.Native.Nat.{_-_, _≤_}
 use borrow.Author.Needs.{needs}
-use Rattle.records.proofs.run.put_lines.Statement.{statement}
-use Rattle.records.proofs.run.put_lines.Tie as tie
+use Rattle.program_records.proofs.run.put_lines.Statement.{statement}
+use Rattle.program_records.proofs.run.put_lines.Tie as tie
 
 abbrev Inv-loop : tie.InvT-loop
 Inv-loop bytes got by-bits block₀ at₀ records₀ refused₀ from₀ block at records refused from = (at ≤ 65536) × (from ≤ got)

@@ -1,7 +1,7 @@
 // One record of sixteen factors: quantized, and a line of text for it.
 use frame_fields::Fields;
-use record_text::input;
-use record_text::text;
+use program_text::input;
+use program_text::text;
 use sns::Answer;
 use sns::encode::Encoded;
 ghost use Prim.Native.Nat.{_≤_, _+_};

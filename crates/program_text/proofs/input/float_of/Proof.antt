@@ -6,8 +6,8 @@ use lib.Ieee.{nanBits}
 use borrow.Author.Tests.{eq-eqb, ne-eqb}
 use borrow.Author.Needs.{needs}
 use Prim.Native.Nat.{_-_, _%_, _/_}
-use Rattle.record_text.proofs.input.float_of.Statement.{statement}
-use Rattle.record_text.proofs.input.float_of.Tie as tie
+use Rattle.program_text.proofs.input.float_of.Statement.{statement}
+use Rattle.program_text.proofs.input.float_of.Tie as tie
 
 returns : tie.Need-returns
 returns c = search needs
