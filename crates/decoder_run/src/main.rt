@@ -1,131 +1,79 @@
-// Runs the decoder's side at its corners and prints what it computes, each f32 by its bit pattern.
-ghost use mathlib.Core.Path.{_≡_};
-ghost use lib.ListN.{length};
-ghost use Rattle.decoder.specs.Decoded.{AcceptedFields};
+// Runs the decoder's side through the public calls, at its corners, and prints what they compute, each f32 by its bit
+// pattern.
 use factor::Checked;
 use frame_fields::Fields;
-use libc::STDOUT_FILENO;
+use program_input::bits_of;
+use program_input::float_of;
+use program_text::print;
 
-// A float by its pattern. All NaNs are one.
-fn float(x: f32) {
-    if x != x {
-        io::write_all(STDOUT_FILENO, b" nan");
-        return;
+fn taken(x: f32) {
+    print::hex(b" taken ", bits_of(x));
+}
+
+fn too_far(x: f32) {
+    print::hex(b" no 8 ", bits_of(x));
+}
+
+// The answer for one factor.
+fn checked(x: f32) {
+    match sns_check::check_factor(x) {
+        Checked::Within(y) => taken(y),
+        Checked::TooFar(y) => too_far(y),
+        Checked::NotFinite => print::words(b" no 7"),
     }
-    io::write_all(STDOUT_FILENO, b" ");
-    io::print_hex(STDOUT_FILENO, f32::to_bits(x) as u64, 8);
 }
 
-fn end_line() {
-    io::write_all(STDOUT_FILENO, b"\n");
+// A factor by its bits, and its answer.
+fn check(bits: u32) {
+    print::hex(b"check ", bits);
+    checked(float_of(bits));
+    print::end_line();
 }
 
-// The answer for one factor, after the factor.
-fn check(x: f32) {
-    io::write_all(STDOUT_FILENO, b"check");
-    float(x);
-    match factor::check_factor(x) {
-        Checked::Within(y) => {
-            io::write_all(STDOUT_FILENO, b" taken");
-            float(y);
-        }
-        Checked::TooFar(y) => {
-            io::write_all(STDOUT_FILENO, b" no 8");
-            float(y);
-        }
-        Checked::NotFinite => {
-            io::write_all(STDOUT_FILENO, b" no 7");
-        }
-    }
-    end_line();
-}
-
-// 64.0 and its neighbours on both sides, zeros, the infinities and a NaN.
+// 64.0 and its neighbours on both sides, zeros, the infinities, and a NaN, which has no bits of its own.
 fn checks() {
-    check(64.0);
-    check(f32::from_bits(0x4280_0001));
-    check(f32::from_bits(0x427f_ffff));
-    check(-64.0);
-    check(f32::from_bits(0xc280_0001));
-    check(0.0);
-    check(-0.0);
-    check(f32::from_bits(0x7f80_0000));
-    check(f32::from_bits(0xff80_0000));
-    check(0.0 / 0.0);
+    check(0x4280_0000);
+    check(0x4280_0001);
+    check(0x427f_ffff);
+    check(0xc280_0000);
+    check(0xc280_0001);
+    check(0x0000_0000);
+    check(0x8000_0000);
+    check(0x7f80_0000);
+    check(0xff80_0000);
+    print::words(b"check nan");
+    checked(0.0 / 0.0);
+    print::end_line();
 }
 
-fn floats(x: &[f32]) {
-    let mut i = 0usize;
-    while i < x.len() {
-        float(x[i]);
-        i += 1;
-    }
-    end_line();
+// Sixteen factors as so many bands.
+fn spread(factors: &[f32; 16], band_count: u32, bands: &mut [f32]) {
+    sns_interpolate::interpolate(factors, band_count, bands);
+    print::floats(bands);
 }
 
-// Sixteen factors as 64 bands and as 60.
-fn bands(factors: &[f32; 16])
-    requires { ⌜ length (now factors) ≡ 16 ⌝ }
-{
-    io::write_all(STDOUT_FILENO, b"bands 64");
-    let mut wide = [0.0f32; 64];
-    interpolation::interpolate(factors, &mut wide);
-    floats(&wide);
-    io::write_all(STDOUT_FILENO, b"bands 60");
-    let mut narrow = [0.0f32; 60];
-    interpolation::interpolate(factors, &mut narrow);
-    floats(&narrow);
+fn bands(factors: &[f32; 16]) {
+    print::words(b"bands 64");
+    spread(factors, 64, &mut [0.0; 64]);
+    print::words(b"bands 60");
+    spread(factors, 60, &mut [0.0; 60]);
 }
 
 // Factors 0, 8, 8, ..., and factors 14 and 15 of 0 and 8.
 fn interpolations() {
-    bands(
-        &[
-            0.0,
-            8.0,
-            8.0,
-            8.0,
-            8.0,
-            8.0,
-            8.0,
-            8.0,
-            8.0,
-            8.0,
-            8.0,
-            8.0,
-            8.0,
-            8.0,
-            8.0,
-            8.0,
-        ],
-    );
-    bands(
-        &[
-            0.0,
-            0.0,
-            0.0,
-            0.0,
-            0.0,
-            0.0,
-            0.0,
-            0.0,
-            0.0,
-            0.0,
-            0.0,
-            0.0,
-            0.0,
-            0.0,
-            0.0,
-            8.0,
-        ],
-    );
+    let mut first = [8.0f32; 16];
+    first[0] = 0.0;
+    bands(&first);
+    let mut last = [0.0f32; 16];
+    last[15] = 8.0;
+    bands(&last);
 }
 
-// The bands of accepted fields.
-fn decode(f: Fields)
-    requires { ⌜ AcceptedFields f ⌝ }
-{
-    bands(&decoder::factors(f));
+// The bands of a frame.
+fn decode(frame: Fields) {
+    let mut factors = [0.0f32; 16];
+    sns_decode::decode(frame, &mut factors);
+    bands(&factors);
 }
 
 // Each shape, its first and last gain, and both ends of the indices.
@@ -182,24 +130,25 @@ fn syntheses() {
     });
 }
 
-// 80 lines of 8 kHz and 10 ms, and two past the last limit; the product of line 78 is infinite.
+// The lines of 8 kHz, shaped.
+fn spectrum(ten_ms: bool, band_count: u32, gains: &[f32], lines: &mut [f32]) {
+    sns_shape::shape(0, ten_ms, band_count, gains, lines);
+    print::words(b"lines");
+    print::floats(lines);
+}
+
+// 80 lines of 10 ms, and two past the last limit; the product of line 78 is infinite.
 fn wide_spectrum() {
     let mut gains = [2.0f32; 64];
     gains[63] = 4.0;
     let mut lines = [1.5f32; 82];
-    lines[78] = f32::from_bits(0x7f7f_ffff);
-    shaping::shape(0, true, &gains, &mut lines);
-    io::write_all(STDOUT_FILENO, b"lines");
-    floats(&lines);
+    lines[78] = float_of(0x7f7f_ffff);
+    spectrum(true, 64, &gains, &mut lines);
 }
 
-// 60 lines of 8 kHz and 7.5 ms, and one past the last limit.
+// 60 lines of 7.5 ms, and one past the last limit.
 fn narrow_spectrum() {
-    let gains = [0.5f32; 60];
-    let mut lines = [3.0f32; 61];
-    shaping::shape(0, false, &gains, &mut lines);
-    io::write_all(STDOUT_FILENO, b"lines");
-    floats(&lines);
+    spectrum(false, 60, &[0.5; 60], &mut [3.0; 61]);
 }
 
 fn main() {

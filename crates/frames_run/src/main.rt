@@ -4,22 +4,30 @@
 // decoder gives as well (tests/frames).
 use frame_fields::Fields;
 use libc::STDIN_FILENO;
-use libc::STDOUT_FILENO;
-use program_text::count::one_more;
-use program_text::input;
-use sns::Answer;
+use program_input::bits_of;
+use program_input::word;
+use program_text::print;
+use refusals::Answer;
+use std::num::wrapping_add_u32;
+use std::num::wrapping_add_u64;
 
-// The fields of a record, after its band count.
-fn fields(record: &[u8; 36]) -> Fields {
+// The next number of the input, and 0 where it has ended.
+fn next() -> u32 {
+    let mut bytes = [0u8; 4];
+    io::read_full(STDIN_FILENO, &mut bytes);
+    word(&bytes, 0)
+}
+
+fn fields() -> Fields {
     Fields {
-        low_row: input::word(record, 4),
-        high_row: input::word(record, 8),
-        shape: input::word(record, 12),
-        gain: input::word(record, 16),
-        sign_a: input::word(record, 20),
-        sign_b: input::word(record, 24),
-        index_a: input::word(record, 28),
-        index_b: input::word(record, 32),
+        low_row: next(),
+        high_row: next(),
+        shape: next(),
+        gain: next(),
+        sign_a: next(),
+        sign_b: next(),
+        index_a: next(),
+        index_b: next(),
     }
 }
 
@@ -27,87 +35,70 @@ fn bits_added(sum: u32, values: &[f32]) -> u32 {
     let mut all = sum;
     let mut n = 0usize;
     while n < values.len() {
-        all = std::num::wrapping_add_u32(all, input::bits_of(values[n]));
+        all = wrapping_add_u32(all, bits_of(values[n]));
         n += 1;
     }
     all
 }
 
-// The sum with a frame's band values added: 60 of them, or 64.
-fn bands_added(sum: u32, factors: &[f32; 16], band_count: u32) -> u32 {
-    if band_count == 60 {
-        let mut narrow = [0.0f32; 60];
-        sns::interpolate::interpolate(factors, 60, &mut narrow);
-        return bits_added(sum, &narrow);
-    }
-    let mut wide = [0.0f32; 64];
-    sns::interpolate::interpolate(factors, 64, &mut wide);
-    bits_added(sum, &wide)
+fn bands_added(sum: u32, factors: &[f32; 16], band_count: u32, bands: &mut [f32]) -> u32 {
+    sns_interpolate::interpolate(factors, band_count, bands);
+    bits_added(sum, bands)
 }
 
+// The sum with a frame's band values added: 60 of them, or 64.
+fn frame_added(sum: u32, factors: &[f32; 16], band_count: u32) -> u32 {
+    if band_count == 60 {
+        return bands_added(sum, factors, 60, &mut [0.0; 60]);
+    }
+    bands_added(sum, factors, 64, &mut [0.0; 64])
+}
+
+// How many frames there were and how many were accepted, and the sum.
 struct Seen {
     frames: u64,
     accepted: u64,
     sum: u32,
-    more: bool,
 }
 
-fn frame(f: Fields, band_count: u32, s: Seen) -> Seen {
+fn accepted_with(answer: Answer, accepted: u64) -> u64 {
+    match answer {
+        Answer::Done => wrapping_add_u64(accepted, 1),
+        Answer::No(_, _) => accepted,
+    }
+}
+
+// What was seen, with one frame more. A refused one leaves its factors 0, and adds nothing to the sum.
+fn frame(band_count: u32, s: Seen) -> Seen {
     let mut factors = [0.0f32; 16];
-    match sns::decode::decode(f, &mut factors) {
-        Answer::Done => {
-            Seen {
-                frames: one_more(s.frames),
-                accepted: one_more(s.accepted),
-                sum: bands_added(s.sum, &factors, band_count),
-                more: s.more,
-            }
-        }
-        Answer::No(_, _) => {
-            Seen {
-                frames: one_more(s.frames),
-                accepted: s.accepted,
-                sum: s.sum,
-                more: s.more,
-            }
-        }
+    let answer = sns_decode::decode(fields(), &mut factors);
+    Seen {
+        frames: wrapping_add_u64(s.frames, 1),
+        accepted: accepted_with(answer, s.accepted),
+        sum: frame_added(s.sum, &factors, band_count),
     }
 }
 
-fn record(bytes: &[u8; 36], s: Seen) -> Seen {
-    frame(fields(bytes), input::word(bytes, 0), s)
-}
-
-// One record; no more where the input ends.
-fn turn(s: Seen) -> Seen {
-    let mut bytes = [0u8; 36];
-    if io::read_full(STDIN_FILENO, &mut bytes) < 36 {
-        return Seen {
-            frames: s.frames,
-            accepted: s.accepted,
-            sum: s.sum,
-            more: false,
-        };
-    }
-    record(&bytes, s)
-}
-
-fn main() {
+// Every frame until the input ends.
+fn all() -> Seen {
     let mut s = Seen {
         frames: 0,
         accepted: 0,
         sum: 0,
-        more: true,
     };
+    let mut band_count = next();
     let mut turns = u64::MAX;
-    while turns > 0 && s.more {
-        s = turn(s);
+    while turns > 0 && band_count != 0 {
+        s = frame(band_count, s);
+        band_count = next();
         turns -= 1;
     }
-    io::print_decimal(STDOUT_FILENO, s.accepted);
-    io::write_all(STDOUT_FILENO, b" accepted of ");
-    io::print_decimal(STDOUT_FILENO, s.frames);
-    io::write_all(STDOUT_FILENO, b", band values ");
-    io::print_hex(STDOUT_FILENO, s.sum as u64, 8);
-    io::write_all(STDOUT_FILENO, b"\n");
+    s
+}
+
+fn main() {
+    let s = all();
+    print::pair(b"# accepted of #", s.accepted, s.frames);
+    print::hex(b", band values ", s.sum);
+    print::end_line();
 }

@@ -1,109 +1,100 @@
 // One record of sixteen factors: quantized, and a line of text for it.
-use frame_fields::Fields;
-use program_text::input;
+use program_text::print;
 use program_text::text;
-use sns::Answer;
-use sns::encode::Encoded;
-ghost use Prim.Native.Nat.{_≤_, _+_};
+use program_text::text::Block;
+use refusals::Answer;
+use sns_encode::Encoded;
+ghost use Prim.Native.Nat.{_+_, _≤_};
+ghost use lib.ListN.{length};
 
-// A number and a space.
-fn put_field(block: &mut [u8; 65536], at: usize, number: u32) -> usize
-    ensures { λ r. ⌜ r ≤ 65536 ⌝ }
-{
-    let end = text::put_decimal(block, at, number as u64);
-    text::put(block, end, b' ')
+// A record's answer: the number of its refusal, 0 where it is taken, and the refusal's place; then low row, high row, shape,
+// gain, sign A, sign B, joint index, index A, index B; and the sixteen factors.
+pub struct Quantized {
+    pub refusal: u32,
+    pub place: usize,
+    pub numbers: [u32; 9],
+    pub factors: [f32; 16],
 }
 
-// Low row, high row, shape, gain, sign A, sign B, joint index, index A, index B.
-fn put_fields(block: &mut [u8; 65536], at: usize, f: Fields, joint_index: u32) -> usize
-    ensures { λ r. ⌜ r ≤ 65536 ⌝ }
-{
-    let mut end = put_field(block, at, f.low_row);
-    end = put_field(block, end, f.high_row);
-    end = put_field(block, end, f.shape);
-    end = put_field(block, end, f.gain);
-    end = put_field(block, end, f.sign_a);
-    end = put_field(block, end, f.sign_b);
-    end = put_field(block, end, joint_index);
-    end = put_field(block, end, f.index_a);
-    put_field(block, end, f.index_b)
-}
-
-// A float by its bits or as a decimal number.
-fn put_factor(block: &mut [u8; 65536], at: usize, x: f32, by_bits: bool) -> usize
-    ensures { λ r. ⌜ r ≤ 65536 ⌝ }
-{
-    if by_bits {
-        return text::put_bits(block, at, x);
-    }
-    text::put_float(block, at, x)
-}
-
-// A bar, and the sixteen factors, a space before each.
-fn put_factors(block: &mut [u8; 65536], from: usize, x: &[f32; 16], by_bits: bool) -> usize
-    ensures { λ r. ⌜ r ≤ 65536 ⌝ }
-{
-    let mut at = text::put(block, from, b'|');
-    let mut n = 0usize;
-    while n < 16 {
-        let space = text::put(block, at, b' ');
-        at = put_factor(block, space, x[n], by_bits);
-        n += 1;
-    }
-    at
-}
-
-fn put_refusal(block: &mut [u8; 65536], at: usize, number: u32, place: usize) -> usize
-    ensures { λ r. ⌜ r ≤ 65536 ⌝ }
-{
-    let mut end = text::put_all(block, at, b"refused ");
-    end = text::put_decimal(block, end, number as u64);
-    end = text::put_all(block, end, b" at ");
-    text::put_decimal(block, end, place as u64)
-}
-
-// A line's end in the text, and whether its record was refused.
-pub struct Line {
-    pub end: usize,
-    pub refused: bool,
-}
-
-fn put_answer(block: &mut [u8; 65536], at: usize, e: Encoded, x: &[f32; 16], by_bits: bool) -> Line
-    ensures { λ r. ⌜ r .end ≤ 65536 ⌝ }
-{
-    let answer = e.answer;
+fn refusal_of(answer: Answer) -> u32 {
     match answer {
-        Answer::Done => {
-            let fields = put_fields(block, at, e.fields, e.joint_index);
-            let factors = put_factors(block, fields, x, by_bits);
-            Line {
-                end: text::put(block, factors, b'\n'),
-                refused: false,
-            }
-        }
-        Answer::No(number, place) => {
-            let refusal = put_refusal(block, at, number, place);
-            Line {
-                end: text::put(block, refusal, b'\n'),
-                refused: true,
-            }
-        }
+        Answer::Done => 0,
+        Answer::No(number, _) => number,
     }
 }
 
-// Quantizes the record of 64 bytes from `from` on, and puts its line.
-pub fn put_line(
-    block: &mut [u8; 65536],
-    at: usize,
-    bytes: &[u8; 65536],
-    from: usize,
-    by_bits: bool,
-) -> Line
-    requires { ⌜ from + 64 ≤ 65536 ⌝ }
-    ensures { λ r. ⌜ r .end ≤ 65536 ⌝ }
+fn place_of(answer: Answer) -> usize {
+    match answer {
+        Answer::Done => 0,
+        Answer::No(_, place) => place,
+    }
+}
+
+fn numbers_of(e: Encoded) -> [u32; 9] {
+    let f = e.fields;
+    [
+        f.low_row,
+        f.high_row,
+        f.shape,
+        f.gain,
+        f.sign_a,
+        f.sign_b,
+        e.joint_index,
+        f.index_a,
+        f.index_b,
+    ]
+}
+
+fn quantized_row(row: &[f32]) -> Quantized {
+    let mut factors = [0.0f32; 16];
+    let e = sns_encode::encode(row, &mut factors);
+    let numbers = numbers_of(e);
+    let answer = e.answer;
+    Quantized {
+        refusal: refusal_of(answer),
+        place: place_of(answer),
+        numbers,
+        factors,
+    }
+}
+
+// The record from `at` on, quantized.
+pub fn quantized_record(bytes: &[u8], at: usize) -> Quantized
+    requires { ⌜ at + 64 ≤ length (now bytes) ⌝ }
 {
-    let factors = input::sixteen(bytes, from);
-    let mut quantized = [0.0f32; 16];
-    let e = sns::encode::encode(&factors, &mut quantized);
-    put_answer(block, at, e, &quantized, by_bits)
+    quantized_row(&program_input::record(bytes, at))
+}
+
+// What is written with calls of its own comes after the text before it.
+fn print_refusal(block: &Block, at: usize, number: u32, place: usize) -> usize {
+    text::write(block, at);
+    print::pair(b"refused # at #\n", number as u64, place as u64);
+    0
+}
+
+fn print_bits(block: &Block, at: usize, factors: [f32; 16]) -> usize {
+    text::write(block, at);
+    print::floats(&factors);
+    0
+}
+
+// The factors by their bits or as decimal numbers, and the line's end.
+fn put_factors(block: &mut Block, at: usize, factors: [f32; 16], by_bits: bool) -> usize {
+    if by_bits {
+        return print_bits(block, at, factors);
+    }
+    let end = text::put_floats(block, at, factors);
+    text::put(block, end, b'\n')
+}
+
+// A record's line.
+pub fn put_line(block: &mut Block, at: usize, q: Quantized, by_bits: bool) -> usize {
+    if q.refusal != 0 {
+        return print_refusal(block, at, q.refusal, q.place);
+    }
+    let numbers = q.numbers;
+    let factors = q.factors;
+    let end = text::put_numbers(block, at, numbers);
+    let bar = text::put(block, end, b'|');
+    put_factors(block, bar, factors, by_bits)
 }

@@ -1,81 +1,64 @@
 // Every record until the input ends, a line each, and the summary.
-use crate::frames;
+use crate::frames::put_line;
+use crate::frames::quantized_record;
 use libc::STDIN_FILENO;
-use program_text::count::one_more;
+use program_input::whole_records;
+use program_text::print;
 use program_text::text;
-ghost use Prim.Native.Nat.{_≤_};
+use std::num::wrapping_add_u64;
 
-// How many records were met and how many were refused, whether the last was cut short, and whether more may come.
-pub struct Tally {
-    pub records: u64,
-    pub refused: u64,
-    pub cut: bool,
-    pub more: bool,
-}
-
-// A block's records, one after another. What is left of a record is cut.
-fn put_lines(bytes: &[u8; 65536], got: usize, t: Tally, by_bits: bool) -> Tally
-    requires { ⌜ got ≤ 65536 ⌝ }
-{
-    let mut block = io::large_buffer();
+// Puts the lines of whole records, and answers how many were refused.
+fn put_lines(bytes: &[u8], by_bits: bool) -> u64 {
+    let mut block = [0u8; 131072];
     let mut at = 0usize;
-    let mut records = t.records;
-    let mut refused = t.refused;
-    let mut from = 0usize;
-    while from + 64 <= got {
-        at = text::flush(&block, at);
-        let line = frames::put_line(&mut block, at, bytes, from, by_bits);
-        at = line.end;
-        records = one_more(records);
-        if line.refused {
-            refused = one_more(refused);
-        }
-        from += 64;
+    let mut refused = 0u64;
+    let mut n = 0usize;
+    while n < whole_records(bytes) {
+        let q = quantized_record(bytes, 64 * n);
+        at = put_line(&mut block, at, q, by_bits);
+        refused = wrapping_add_u64(refused, (q.refusal != 0) as u64);
+        n += 1;
     }
     text::write(&block, at);
-    Tally {
-        records,
-        refused,
-        cut: from < got,
-        more: got == 65536,
-    }
+    refused
 }
 
-fn turn(t: Tally, by_bits: bool) -> Tally {
-    let mut bytes = io::large_buffer();
+// How many bytes came, and how many of their records were refused.
+struct Came {
+    got: usize,
+    refused: u64,
+}
+
+fn turn(by_bits: bool) -> Came {
+    let mut bytes = [0u8; 16384];
     let got = io::read_full(STDIN_FILENO, &mut bytes);
-    put_lines(&bytes, got, t, by_bits)
+    Came {
+        got,
+        refused: put_lines(&bytes[..got], by_bits),
+    }
 }
 
-fn put_summary(t: Tally) {
-    let mut block = io::large_buffer();
-    let mut at = 0usize;
-    if t.cut {
-        at = text::put_all(&mut block, at, b"cut\n");
+// What is left of a record is cut.
+fn print_summary(bytes: u64, refused: u64) {
+    if bytes % 64 != 0 {
+        print::pair(b"cut\n# records, # refused, 1 cut\n", bytes / 64, refused);
+        return;
     }
-    at = text::put_decimal(&mut block, at, t.records);
-    at = text::put_all(&mut block, at, b" records, ");
-    at = text::put_decimal(&mut block, at, t.refused);
-    at = text::put_all(&mut block, at, b" refused");
-    if t.cut {
-        at = text::put_all(&mut block, at, b", 1 cut");
-    }
-    at = text::put(&mut block, at, b'\n');
-    text::write(&block, at);
+    print::pair(b"# records, # refused\n", bytes / 64, refused);
 }
 
-// Factors by their bits, or as decimal numbers.
+// Factors by their bits, or as decimal numbers. No input is long enough to reach the end of an u64.
 pub fn run(by_bits: bool) {
-    let mut t = Tally {
-        records: 0,
-        refused: 0,
-        cut: false,
-        more: true,
-    };
+    let mut bytes = 0u64;
+    let mut refused = 0u64;
+    let mut got = 16384usize;
     let mut turns = u64::MAX;
-    while turns > 0 && t.more {
-        t = turn(t, by_bits);
+    while turns > 0 && got == 16384 {
+        let t = turn(by_bits);
+        got = t.got;
+        bytes = wrapping_add_u64(bytes, got as u64);
+        refused = wrapping_add_u64(refused, t.refused);
         turns -= 1;
     }
-    put_summary(t);
+    print_summary(bytes, refused);
 }

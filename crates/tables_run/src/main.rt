@@ -1,104 +1,79 @@
-// Writes every table: floats by their bits, whole numbers in decimal. The file stdout beside src/ is what the Rust's own
-// tables give (tests/tables/record.sh), so the two are equal bit for bit.
+// Writes every table, a row a line: floats by their bits, whole numbers in decimal. The file stdout beside src/ is what the
+// Rust's own tables give (tests/tables/record.sh), so the two are equal bit for bit.
 use band_index_tables::band_limits;
-use libc::STDOUT_FILENO;
 use mpvq_offsets::mpvq_offset;
+use program_text::print;
 use sns_tables::spec_noise_shape_quant_tables as tables;
+ghost use Prim.Native.Nat.{_<_};
 
-fn end_line() {
-    io::write_all(STDOUT_FILENO, b"\n");
+fn print_code(rows: [[f32; 8]; 32], n: usize)
+    requires { ⌜ n < 32 ⌝ }
+{
+    print::floats(&rows[n]);
 }
 
-// A float's eight hexadecimal digits; a NaN has no pattern of its own.
-fn print_bits(x: f32) {
-    if x != x {
-        io::write_all(STDOUT_FILENO, b" nan");
-        return;
+fn print_rotation(rows: [[f32; 16]; 16], n: usize)
+    requires { ⌜ n < 16 ⌝ }
+{
+    print::floats(&rows[n]);
+}
+
+fn print_gains() {
+    print::floats(&tables::sns_vq_reg_adj_gains());
+    print::floats(&tables::sns_vq_reg_lf_adj_gains());
+    print::floats(&tables::sns_vq_near_adj_gains());
+    print::floats(&tables::sns_vq_far_adj_gains());
+}
+
+fn print_number(n: u64) {
+    print::number(b" ", n);
+}
+
+fn print_offset(n: usize, k: usize)
+    requires { ⌜ (n < 16) × (k < 11) ⌝ }
+{
+    print_number(mpvq_offset(n, k) as u64);
+}
+
+fn print_offsets(n: usize)
+    requires { ⌜ n < 16 ⌝ }
+{
+    let mut k = 0usize;
+    while k < 11 {
+        print_offset(n, k);
+        k += 1;
     }
-    io::write_all(STDOUT_FILENO, b" ");
-    io::print_hex(STDOUT_FILENO, wide(f32::to_bits(x)), 8);
+    print::end_line();
 }
 
-fn wide(x: u32) -> u64 {
-    x as u64
-}
-
-fn print_floats(row: &[f32]) {
-    let mut i = 0;
-    while i < row.len() {
-        print_bits(row[i]);
-        i += 1;
-    }
-    end_line();
-}
-
-fn print_codebook(rows: &[[f32; 8]; 32]) {
-    let mut n = 0;
-    while n < 32 {
-        let mut k = 0;
-        while k < 8 {
-            print_bits(rows[n][k]);
-            k += 1;
-        }
-        end_line();
-        n += 1;
-    }
-}
-
-fn print_rotation(rows: &[[f32; 16]; 16]) {
-    let mut n = 0;
-    while n < 16 {
-        let mut k = 0;
-        while k < 16 {
-            print_bits(rows[n][k]);
-            k += 1;
-        }
-        end_line();
-        n += 1;
-    }
-}
-
-fn print_offsets() {
-    let mut n = 0;
-    while n < 16 {
-        let mut k = 0;
-        while k < 11 {
-            io::write_all(STDOUT_FILENO, b" ");
-            io::print_decimal(STDOUT_FILENO, wide(mpvq_offset(n, k)));
-            k += 1;
-        }
-        end_line();
-        n += 1;
-    }
-}
-
-fn print_limits(limits: &[usize; 65]) {
-    let mut b = 0;
+fn print_limits(limits: [usize; 65]) {
+    let mut b = 0usize;
     while b < 65 {
-        io::write_all(STDOUT_FILENO, b" ");
-        io::print_decimal(STDOUT_FILENO, limits[b] as u64);
+        print_number(limits[b] as u64);
         b += 1;
     }
-    end_line();
+    print::end_line();
 }
 
-fn print_all_limits(ten_ms: bool) {
-    let mut rate = 0;
-    while rate < 5 {
-        print_limits(&band_limits(rate, ten_ms));
-        rate += 1;
+// The rows of both codebooks, of the rotation, the gains as one, the rows of pulse offsets, and of the band limits of 10 and
+// of 7.5 ms.
+fn print_row(n: usize) {
+    match n {
+        0..=31 => print_code(tables::lfcb(), n),
+        32..=63 => print_code(tables::hfcb(), n - 32),
+        64..=79 => print_rotation(tables::d(), n - 64),
+        80 => print_gains(),
+        81..=96 => print_offsets(n - 81),
+        97..=101 => print_limits(band_limits(n - 97, true)),
+        102..=106 => print_limits(band_limits(n - 102, false)),
+        _ => {}
     }
 }
 
 fn main() {
-    print_codebook(&tables::lfcb());
-    print_codebook(&tables::hfcb());
-    print_rotation(&tables::d());
-    print_floats(&tables::sns_vq_reg_adj_gains());
-    print_floats(&tables::sns_vq_reg_lf_adj_gains());
-    print_floats(&tables::sns_vq_near_adj_gains());
-    print_floats(&tables::sns_vq_far_adj_gains());
-    print_offsets();
-    print_all_limits(true);
-    print_all_limits(false);
+    let mut n = 0usize;
+    while n < 107 {
+        print_row(n);
+        n += 1;
+    }
 }
