@@ -8,7 +8,7 @@ help:
 	@echo 'make staticlib the library for C and Rust: target/staticlib/libsns_c.a, with include/lc3_sns.h'
 	@echo 'make bindings  the library called from C and from bindings/rust (see tests/bindings.sh)'
 	@echo 'make compare   the port beside the Rust, bit for bit: encoder, numbering, decoder, shaping; and refusals by the table'
-	@echo 'make bench     encode, pack and unpack timed beside the Rust, then decode, interpolate and shape; BEFORE=COMMIT adds the calls of that commit'
+	@echo 'make bench     encode, pack and unpack timed beside the Rust, then decode, interpolate and shape; BEFORE=COMMIT adds the calls of that commit but pack'
 	@echo 'make format    lay out every Rattle and antt file'
 	@echo 'make tables    make the recorded tables anew from the Rust source (see tests/tables/record.sh)'
 	@echo 'make frames    make the recorded frames and answers anew from the Rust (see tests/frames/README.md)'

@@ -1,5 +1,4 @@
-//! The port's public decode, interpolate and shape: time, and with BEFORE=COMMIT beside that commit's, every answer compared. The
-//! Rust has no function for one of these steps alone.
+//! The port's public decode, interpolate and shape: time, and with BEFORE=COMMIT beside that commit's, every answer compared.
 #[path = "../tests/rust/inputs.rs"]
 mod inputs;
 #[path = "../tests/rust/reference.rs"]

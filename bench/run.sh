@@ -1,7 +1,7 @@
 #!/bin/sh
 # bench/run.sh CRATE DRIVER.rs LIST..: times the port beside the Rust (see bench/timing.rs), and counts the instructions of a
 # call on each named list of inputs where valgrind is at hand. `bench/run.sh stage1_bench bench/stage1.rs 'stage 1, scale 64'`
-# is stage 1. With BEFORE=COMMIT encode and unpack of that commit stand beside both.
+# is stage 1. With BEFORE=COMMIT the calls of that commit stand beside both (but pack).
 set -eu
 cd "$(dirname "$0")/.."
 crate=$1 driver=$2

@@ -12,5 +12,5 @@ status=$(cat "$said.status")
 sh tests/rust_at_hand.sh sh tests/tables/record.sh --check
 sh tests/rust_at_hand.sh sh tests/frames/record.sh --check
 COMPARE=short sh tests/rust_at_hand.sh make --no-print-directory compare
-sh tests/rust_at_hand.sh sh tests/bindings.sh --made
+sh tests/bindings.sh --made
 tail -n 1 "$said"

@@ -1,4 +1,4 @@
--- What is shown of the candidates and of the choice. Definitions only; the proofs are in proofs/Claims.
+-- What is shown of the candidates and of the choice. Definitions only; the proofs are in proofs/Claims and proofs/Choices.
 use mathlib.Core.Path.{_≡_}
 use mathlib.Core.Bool.{not}
 use mathlib.Core.List.{List, []}

@@ -1,5 +1,5 @@
-// The decoder whole, the twin of `encoder`: the fields of an accepted frame to their sixteen pulses, and to sixteen factors.
-// Public for the crates above only: a caller shows that the frame is accepted. Every result is pinned.
+// The decoder whole, the twin of `encoder`: the fields of a frame to their sixteen pulses, and to sixteen factors. Public
+// for the crates above only: a caller shows the `requires`. Every result is pinned.
 use frame_fields::Fields;
 use frame_fields::Numbers;
 use sns_tables::spec_noise_shape_quant_tables as tables;

@@ -9,3 +9,4 @@ pub mod Running
 pub mod Floor
 pub mod Scan
 pub mod Bounded
+pub mod Whole

@@ -3,11 +3,11 @@ use mathlib.Core.Bool.{Bool, not, cond}
 use mathlib.Core.List.{List}
 use Prim.Native.Nat.{ℕ, zero, suc, _+_}
 use lib.Dec.{leb}
-use lib.IntN.{pos}
 use lib.ListN.{getD}
-use lib.Ieee.{Float, nan, binary32, ofInt, add, mul, lt}
+use lib.Ieee.{Float, nan, binary32, add, mul, lt}
 use Rattle.list_laws.specs.ListOf.{listOf}
 use Rattle.float_laws.specs.Literal.{nought, one, two, squared}
+use Rattle.float_laws.specs.Whole.{amount}
 
 -- the absolute value of each place up to last, and zero past it
 unfoldable pub firstOf : List Float → ℕ → List Float
@@ -16,10 +16,6 @@ firstOf a last = listOf 16 (λ n. cond (leb n last) (getD a n nan) nought)
 -- c·c of each place
 unfoldable pub squaredLanes : List Float → Float → List Float
 squaredLanes a correlation = listOf 16 (λ n. squared (add binary32 correlation (getD a n nan)))
-
--- a place's pulses as a float
-abbrev pub amount : List ℕ → ℕ → Float
-amount y n = ofInt binary32 (pos (getD y n 0))
 
 -- e of each place
 unfoldable pub energiesOf : List ℕ → Float → List Float

@@ -12,7 +12,7 @@ use Rattle.float_laws.proofs.Size.{whole-exact}
 use Rattle.float_laws.proofs.Whole.{whole-add, whole-mul, whole-le}
 use Rattle.float_laws.specs.Literal.{one, two}
 use Rattle.pulse_search.specs.Pulse.{pairAt, bestTo, Search, start, onePulse, more, totalTo, squareTo}
-use Rattle.pulse_guess.specs.Lanes.{amount}
+use Rattle.float_laws.specs.Whole.{amount}
 use Rattle.pulse_search.specs.Claims.{Belongs, TriedBelong, Held, RecordHeld, pulsePlace, grown, orderedSum, RecordOrdered}
 use Rattle.pulse_search.proofs.Sums.{place-le, total-one, square-more, square-low, square-high}
 use Rattle.pulse_search.proofs.Laws.{best-le, more-suc, more-zero, more-length, more-total}

@@ -15,7 +15,8 @@ use Rattle.float_laws.specs.Literal.{nought, one, two, squared}
 use Rattle.list_laws.proofs.ListOf.{getD-listOf}
 use Rattle.pulse_search.specs.declared.SearchRecord.{SearchRecord}
 use Rattle.pulse_search.specs.Pulse.{pairAt, replaces, bestTo}
-use Rattle.pulse_guess.specs.Lanes.{amount, firstOf, squaredLanes, energiesOf, unbeatenBy, countTo}
+use Rattle.float_laws.specs.Whole.{amount}
+use Rattle.pulse_guess.specs.Lanes.{firstOf, squaredLanes, energiesOf, unbeatenBy, countTo}
 use Rattle.pulse_guess.proofs.Counted.{only-one}
 
 holds : (b : Bool) → T b → b ≡ true

@@ -6,7 +6,7 @@ use lib.ListN.{getD, set}
 use lib.Ieee.{Float, nan, binary32, add, mul, lt}
 use Rattle.float_laws.specs.Literal.{one, two, squared}
 use Rattle.float_laws.specs.Scan.{scanTo}
-use Rattle.pulse_guess.specs.Lanes.{amount}
+use Rattle.float_laws.specs.Whole.{amount}
 use Rattle.pulse_search.specs.declared.SearchRecord.{SearchRecord}
 
 -- c = correlation + a[n] and e = (energy + 2·pulses[n]) + 1: the pair with one pulse more at place n

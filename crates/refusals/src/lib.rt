@@ -20,7 +20,7 @@ pub enum Element {
     Value,
 }
 
-// The answer for one element at its place. The numbers of elements stand here and nowhere else.
+// The answer for one element at its place. The numbers that a row is refused with stand here and in no other call.
 fn element_refusal(x: f32, place: usize, element: Element) -> Answer
     requires { ⌜ T (limitFinite element) ⌝ }
     ensures { λ r. ⌜ r ≡ answerOf (elementAsked element place x) ⌝ }

@@ -1,5 +1,5 @@
 // The shapes: each set of pulse vectors states its dimension, pulse count and size as constants of a type of its own, and
-// the set of a shape how many gains the shape has; PulseSet's constructors and every other reader take them from there.
+// the set of a shape how many gains the shape has; PulseSet's constructors, the scan and the joint index read them there.
 // Public for the crates above only; every result is pinned.
 ghost use mathlib.Core.Path.{_≡_};
 ghost use Prim.Native.Nat.{_<_};

@@ -20,6 +20,7 @@ answered =
       refused-exactly = refusals.refused-exactly;
       done-exactly = refusals.done-exactly;
       check-pinned = check.check-pinned;
+      check-asked = check.check-asked;
       encode-pinned = encode.encode-pinned;
       decode-pinned = decode.decode-pinned;
       pulses-pinned = decode.pulses-pinned;
@@ -58,6 +59,7 @@ numbered =
       unpack-then-pack = number.unpack-pack;
       pack-then-unpack = number.pack-unpack;
       decoded-within = within-64;
+      decode-within = decode.decode-within;
     }
 
 pub unbeaten : Unbeaten

@@ -1,5 +1,5 @@
--- The demands on the public calls, each a record of theorems. The proofs are in proofs/Demands.antt; the contracts of crate sns say
--- that the code does what these definitions say, for every input, with nothing asked of the caller. Definitions only.
+-- The demands on the public calls, each a record of theorems. The proofs are in proofs/Demands.antt; the contracts of the calls, each in
+-- its own crate, say that the code does what these definitions say, for every input, with nothing asked of the caller. Definitions only.
 use Rattle.numbering.specs.Claims as numbering
 use Rattle.pulse_search.specs.Claims as pulses
 use Rattle.shape_search.specs.Claims as shapes
@@ -15,11 +15,13 @@ use Rattle.sns_number.specs.Claims as number
 use Rattle.sns.specs.EncodeClaims as third
 
 -- 1. Any numbers and any buffers get an answer. A call is refused with the first of its questions that is given, always then and only
--- then, and done exactly when none is; two results that a call's statement allows are equal, and so are the buffers.
+-- then, and done exactly when none is; two results that a call's statement allows are equal, and so are the buffers; one factor has
+-- the number that it has in a row of factors.
 pub record Answered : Type 0 where
   pub refused-exactly : refusals.RefusedExactly
   pub done-exactly : refusals.DoneExactly
   pub check-pinned : check.CheckPinned
+  pub check-asked : check.CheckAsked
   pub encode-pinned : encode.EncodePinned
   pub decode-pinned : decode.DecodePinned
   pub pulses-pinned : decode.PulsesPinned
@@ -46,12 +48,14 @@ pub record Taken : Type 0 where
   pub unpack-takes : number.UnpackTakes
   pub pack-takes : number.PackTakes
 
--- 2. Numbering and its reverse undo each other for the four pairs, through the public calls; all decoded factors lie within 64.
+-- 2. Numbering and its reverse undo each other for the four pairs, through the public calls; all decoded factors lie within 64, of
+-- accepted fields and of every call of decode that is done.
 pub record Numbered : Type 0 where
   pub any-pair : numbering.Claim
   pub unpack-then-pack : number.UnpackThenPack
   pub pack-then-unpack : number.PackThenUnpack
   pub decoded-within : decoder.Within64
+  pub decode-within : decode.DecodeWithin
 
 -- 3. None of the 18 scanned choices, each shape with each gain that the tables hold, beats the answer; decoded again it gives the winner's
 -- very pulses; it depends on the sixteen factors alone. The shapes are sought with the pair that belongs to the pulses placed, after every pulse.

@@ -1,12 +1,17 @@
 -- The claims of specs/Claims.antt: every field is given by an equation. Assumes nothing.
 use mathlib.Core.Path.{_≡_, sym, _∙_}
 use Rattle.sns_c.specs.declared.Code.{Code}
+use Rattle.sns_c.specs.declared.EncodedCode.{EncodedCode}
 use Rattle.sns_c.specs.declared.PackedCode.{PackedCode}
 use Rattle.sns_c.specs.declared.CheckedCode.{CheckedCode}
-use Rattle.sns_c.specs.Claims.{CodePinned, PackedPinned, CheckedPinned}
+use Rattle.sns_c.specs.Claims.{CodePinned, EncodedPinned, PackedPinned, CheckedPinned}
 
 same-code : (r r′ : Code) → r .number ≡ r′ .number → r .place ≡ r′ .place → r ≡ r′
 same-code r r′ a b = rw (← a, ← b)
+
+same-encoded : (r r′ : EncodedCode) → r .number ≡ r′ .number → r .place ≡ r′ .place → r .«low_row» ≡ r′ .«low_row» → r .«high_row» ≡ r′ .«high_row» → r .shape ≡ r′ .shape → r .gain ≡ r′ .gain
+    → r .«sign_a» ≡ r′ .«sign_a» → r .«sign_b» ≡ r′ .«sign_b» → r .«joint_index» ≡ r′ .«joint_index» → r .«index_a» ≡ r′ .«index_a» → r .«index_b» ≡ r′ .«index_b» → r ≡ r′
+same-encoded r r′ a b c d e f g h i j k = rw (← a, ← b, ← c, ← d, ← e, ← f, ← g, ← h, ← i, ← j, ← k)
 
 same-packed : (r r′ : PackedCode) → r .number ≡ r′ .number → r .place ≡ r′ .place → r .sign ≡ r′ .sign → r .index ≡ r′ .index → r ≡ r′
 same-packed r r′ a b c d = rw (← a, ← b, ← c, ← d)
@@ -17,6 +22,16 @@ same-checked r r′ a b = rw (← a, ← b)
 pub code-pinned : CodePinned
 code-pinned A a filled old r r′ new new′ s s′ =
     (same-code r r′ (s .code .number ∙ sym (s′ .code .number)) (s .code .place ∙ sym (s′ .code .place)), s .buffer ∙ sym (s′ .buffer))
+
+pub encoded-pinned : EncodedPinned
+encoded-pinned a q old r r′ new new′ s s′ =
+    let e = s .encoded in
+    let f = s′ .encoded in (
+      same-encoded r r′ (e .number ∙ sym (f .number)) (e .place ∙ sym (f .place)) (e .low-row ∙ sym (f .low-row)) (e .high-row ∙ sym (f .high-row))
+          (e .shape ∙ sym (f .shape)) (e .gain ∙ sym (f .gain)) (e .sign-a ∙ sym (f .sign-a)) (e .sign-b ∙ sym (f .sign-b)) (e .joint-index ∙ sym (f .joint-index))
+          (e .index-a ∙ sym (f .index-a)) (e .index-b ∙ sym (f .index-b)),
+      s .buffer ∙ sym (s′ .buffer),
+    )
 
 pub packed-pinned : PackedPinned
 packed-pinned a r r′ s s′ =

@@ -1,5 +1,5 @@
 // The public calls for C and Rust, as include/lc3_sns.h has them: thin, no rule of their own. An answer that is an enum goes
-// out as a struct of numbers, and each call is pinned by the definitions of crate `sns`.
+// out as a struct of numbers, and each call is pinned by the definitions of that call's own crate.
 use factor::Checked;
 use frame_fields::Fields;
 use sns::Answer;

@@ -1,4 +1,4 @@
--- What is shown of stage 2. Definitions only; the proofs are in proofs/Claims.
+-- What is shown of stage 2. Definitions only; the proofs are in proofs/Claims and proofs/Signs.
 use mathlib.Core.Path.{_≡_}
 use mathlib.Core.Bool.{not}
 use mathlib.Core.List.{List, []}

@@ -1,4 +1,5 @@
--- The decoder's synthesis: the length of the pulses, the gain divided by it, and the sixteen factors. Definitions only.
+-- Synthesis: a code, and what is multiplied by a sum over columns of D, for both ends; and the decoder's, of pulses and the gain divided by their
+-- length. Definitions only.
 use mathlib.Core.List.{List}
 use Prim.Native.Nat.{ℕ}
 use lib.IntN.{ℤ}

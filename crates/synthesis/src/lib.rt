@@ -1,5 +1,5 @@
-// The decoder's synthesis: sixteen factors of two codebook rows, a shape's pulses and a gain. Public for the crates
-// above only: a caller lends the tables and shows the `requires`. Every result is pinned.
+// Synthesis: sixteen factors of sixteen codes, a vector turned by D and what it is multiplied by, for both ends; and the
+// decoder's, of two codebook rows, a shape's pulses and a gain. Public for the crates above only: a caller lends the tables and shows the `requires`. Every result is pinned.
 ghost use mathlib.Core.Path.{_≡_};
 ghost use Prim.Native.Nat.{_<_, _*_};
 ghost use lib.ListN.{getD};

@@ -1,4 +1,4 @@
--- Accepted inputs are accepted by synthesis, and each table is what it is lent as.
+-- Accepted fields are synthesised, and each table is what it is lent as.
 use mathlib.Core.Path.{_∙_}
 use borrow.Author.Needs.{needs}
 use Rattle.decoder.proofs.Claims.{synthesisable}

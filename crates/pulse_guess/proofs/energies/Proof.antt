@@ -7,7 +7,8 @@ use lib.Ieee.{binary32, add, mul}
 use Rattle.list_laws.proofs.Fill.{over, over-none, over-more}
 use Rattle.list_laws.proofs.Full.{full}
 use Rattle.float_laws.specs.Literal.{one, two}
-use Rattle.pulse_guess.specs.Lanes.{amount, energiesOf}
+use Rattle.float_laws.specs.Whole.{amount}
+use Rattle.pulse_guess.specs.Lanes.{energiesOf}
 use Rattle.pulse_guess.proofs.energies.Statement.{statement}
 use Rattle.pulse_guess.proofs.energies.Tie as tie
 
