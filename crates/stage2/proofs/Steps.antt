@@ -7,7 +7,7 @@ use lib.IntN.{ℤ}
 use lib.ListN.{getD}
 use lib.Ieee.{Float, nan}
 use Rattle.list_laws.specs.ListOf.{listOf}
-use Rattle.list_laws.proofs.ListOf.{getD-listOf}
+use Rattle.list_laws.proofs.ListOf.{getD-listOf, same-listOf}
 use Rattle.sns_tables.specs.Gains.{gainsOf, gainAt}
 use Rattle.frame_fields.specs.declared.Numbers.{Numbers}
 use Rattle.frame_fields.specs.Accepted.{Indexed}
@@ -15,7 +15,6 @@ use Rattle.frame_fields.specs.Joint.{jointIndex}
 use Rattle.shape_numbers.specs.Pulses.{Shaped}
 use Rattle.shape_numbers.specs.Numbers.{numbersOf}
 use Rattle.shape_numbers.proofs.Claims.{numbers-indexed}
-use Rattle.pulse_length.specs.Length.{Sixteen}
 use Rattle.pulse_length.proofs.Squares.{shaped-sixteen}
 use Rattle.synthesis.specs.Synthesis.{synthesised}
 use Rattle.stage2_target.specs.Target.{targetOf}
@@ -23,7 +22,7 @@ use Rattle.candidates.specs.declared.Choice.{Choice}
 use Rattle.candidates.specs.Scan.{choices, choiceAt, gainOf, winnerOf}
 use Rattle.candidates.proofs.Choices.{choice-shape, choice-small, choice-gain, winner-under}
 use Rattle.candidates.specs.Candidate.{candidateOf}
-use Rattle.stage2.specs.Stage2.{pulsesFor, signedRow, signedFor, candidatesOf, choiceOf, selectedOf, resultOf, stage2Of}
+use Rattle.stage2.specs.Stage2.{pulsesFor, signedRow, signedFor, FourRows, candidatesOf, choiceOf, selectedOf, resultOf, stage2Of}
 use Rattle.stage2.specs.declared.Selected.{Selected}
 use Rattle.stage2.specs.declared.SnsStage2Result.{SnsStage2Result}
 use Rattle.stage2.proofs.Signs.{signed-shaped}
@@ -42,19 +41,19 @@ rows-are t y e v0 v1 v2 v3 a b c d =
     let r = row-at (pulsesFor t) y e in
     rw (a, b, c, d, r 0 (lit< tt), r 1 (lit< tt), r 2 (lit< tt), r 3 (lit< tt))
 
--- a signed row as it is read, and its candidate
-module _ (t : List Float) (v : List (List ℤ)) (e : v ≡ listOf 4 (signedFor t)) (s : ℕ) (h : s < 4) where
-  pub row-sixteen : Sixteen (getD v s [])
-  row-sixteen = rw (row-at (signedFor t) v e s h) (shaped-sixteen s (signedFor t s) (signed-shaped t s))
+pub four-rows : (t : List Float) (v : List (List ℤ)) → v ≡ listOf 4 (signedFor t) → FourRows v
+four-rows t v e s h = rw (row-at (signedFor t) v e s h) (shaped-sixteen s (signedFor t s) (signed-shaped t s))
 
-  pub row-candidate : (q : List Float) → q ≡ candidateOf (getD v s []) → q ≡ candidateOf (signedFor t s)
-  row-candidate q p = rw (row-at (signedFor t) v e s h) at p
+-- the candidates of rows, and of the signed ones
+pub four-candidates : (v : List (List ℤ)) (q0 q1 q2 q3 : List Float)
+    → q0 ≡ candidateOf (getD v 0 []) → q1 ≡ candidateOf (getD v 1 []) → q2 ≡ candidateOf (getD v 2 []) → q3 ≡ candidateOf (getD v 3 [])
+    → q0 ∷ q1 ∷ q2 ∷ q3 ∷ [] ≡ listOf 4 (λ shape. candidateOf (getD v shape []))
+unfolding listOf
+four-candidates v q0 q1 q2 q3 a b c d = rw (a, b, c, d)
 
-pub candidates-are : (t : List Float) (q0 q1 q2 q3 : List Float)
-    → q0 ≡ candidateOf (signedFor t 0) → q1 ≡ candidateOf (signedFor t 1) → q2 ≡ candidateOf (signedFor t 2) → q3 ≡ candidateOf (signedFor t 3)
-    → q0 ∷ q1 ∷ q2 ∷ q3 ∷ [] ≡ candidatesOf t
-unfolding candidatesOf listOf
-candidates-are t q0 q1 q2 q3 a b c d = rw (a, b, c, d)
+pub candidates-are : (t : List Float) (v : List (List ℤ)) (q : List (List Float)) → v ≡ listOf 4 (signedFor t) → q ≡ listOf 4 (λ shape. candidateOf (getD v shape [])) → q ≡ candidatesOf t
+unfolding candidatesOf
+candidates-are t v q e p = p ∙ same-listOf 4 _ _ (λ s h. ap candidateOf (row-at (signedFor t) v e s h))
 
 pub candidate-at : (t : List Float) (s : ℕ) → s < 4 → getD (candidatesOf t) s [] ≡ candidateOf (signedFor t s)
 unfolding candidatesOf

@@ -1,7 +1,7 @@
 -- Stage 2 of the quantizer, whole, over the residual and the codes. Definitions only.
 use mathlib.Core.Bool.{cond}
-use mathlib.Core.List.{List}
-use Prim.Native.Nat.{ℕ}
+use mathlib.Core.List.{List, []}
+use Prim.Native.Nat.{ℕ, _<_}
 use lib.IntN.{ℤ}
 use lib.ListN.{getD}
 use lib.Ieee.{Float, nan, lt}
@@ -11,6 +11,7 @@ use Rattle.sns_tables.specs.Gains.{gainAt}
 use Rattle.frame_fields.specs.Joint.{jointIndex}
 use Rattle.numbering.specs.Numbering.{signed}
 use Rattle.shape_numbers.specs.Numbers.{numbersOf}
+use Rattle.pulse_length.specs.Length.{Sixteen}
 use Rattle.synthesis.specs.Synthesis.{synthesised}
 use Rattle.stage2_target.specs.Target.{targetOf, absolutesOf}
 use Rattle.shape_search.specs.Shape.{shapePulses}
@@ -35,6 +36,10 @@ pulsesFor t shape = shapePulses (absolutesOf t) shape
 -- and with signs
 abbrev pub signedFor : List Float → ℕ → List ℤ
 signedFor t shape = signedRow t (pulsesFor t shape)
+
+-- four rows, each of them a shape's sixteen pulses
+abbrev pub FourRows : List (List ℤ) → Type 0
+FourRows v = (shape : ℕ) → shape < 4 → Sixteen (getD v shape [])
 
 -- the candidates of shapes 0 to 3
 unfoldable pub candidatesOf : List Float → List (List Float)

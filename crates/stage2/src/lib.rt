@@ -6,8 +6,9 @@ ghost use Prim.Native.Nat.{_<_};
 ghost use lib.ListN.{getD};
 ghost use Rattle.list_laws.specs.ListOf.{listOf};
 ghost use Rattle.roots.specs.Root.{rootTable};
+ghost use Rattle.pulse_length.specs.Length.{Sixteen};
 ghost use Rattle.candidates.specs.Candidate.{candidateOf};
-ghost use Rattle.stage2.specs.Stage2.{signOf, signedRow, pulsesFor, signedFor, candidatesOf, selectedOf, stage2Of};
+ghost use Rattle.stage2.specs.Stage2.{signOf, signedRow, pulsesFor, signedFor, FourRows, selectedOf, stage2Of};
 use frame_fields::Numbers;
 
 pub struct SnsStage2Result {
@@ -53,25 +54,25 @@ fn add_signs(t2rot: &[f32; 16], y: &[[u8; 16]; 4]) -> [[i32; 16]; 4]
 }
 
 // A shape's candidate.
-fn candidate(roots: &[f32; 101], t2rot: &[f32; 16], v: &[[i32; 16]; 4], shape: usize) -> [f32; 16]
-    requires { ⌜ (now roots ≡ rootTable) × (shape < 4) × (now v ≡ listOf 4 (signedFor (now t2rot))) ⌝ }
-    ensures { λ q. ⌜ q ≡ candidateOf (signedFor (now (t2rot .entry)) shape) ⌝ }
+fn candidate(roots: &[f32; 101], v: &[[i32; 16]; 4], shape: usize) -> [f32; 16]
+    requires { ⌜ (now roots ≡ rootTable) × (shape < 4) × Sixteen (getD (now v) shape []) ⌝ }
+    ensures { λ q. ⌜ q ≡ candidateOf (getD (now (v .entry)) shape []) ⌝ }
 {
     let y = v[shape];
     candidates::normalize_candidate(roots, &y)
 }
 
 // The candidates of the four shapes.
-fn normalize_candidates(t2rot: &[f32; 16], v: &[[i32; 16]; 4]) -> [[f32; 16]; 4]
-    requires { ⌜ now v ≡ listOf 4 (signedFor (now t2rot)) ⌝ }
-    ensures { λ xq. ⌜ xq ≡ candidatesOf (now (t2rot .entry)) ⌝ }
+fn normalize_candidates(v: &[[i32; 16]; 4]) -> [[f32; 16]; 4]
+    requires { ⌜ FourRows (now v) ⌝ }
+    ensures { λ xq. ⌜ xq ≡ listOf 4 (λ shape. candidateOf (getD (now (v .entry)) shape [])) ⌝ }
 {
     let roots = roots::roots();
     [
-        candidate(&roots, t2rot, v, 0),
-        candidate(&roots, t2rot, v, 1),
-        candidate(&roots, t2rot, v, 2),
-        candidate(&roots, t2rot, v, 3),
+        candidate(&roots, v, 0),
+        candidate(&roots, v, 1),
+        candidate(&roots, v, 2),
+        candidate(&roots, v, 3),
     ]
 }
 
@@ -88,7 +89,7 @@ fn select(t2rot: &[f32; 16], v: &[[i32; 16]; 4]) -> Selected
     requires { ⌜ now v ≡ listOf 4 (signedFor (now t2rot)) ⌝ }
     ensures { λ s. ⌜ s ≡ selectedOf (now (t2rot .entry)) ⌝ }
 {
-    let xq = normalize_candidates(t2rot, v);
+    let xq = normalize_candidates(v);
     let gains = candidates::scanned_gains();
     let best = candidates::winner(t2rot, &xq, &gains);
     let c = candidates::choice_at(best);

@@ -1,7 +1,8 @@
 -- The four candidates are the list.
 use Prim.Native.Nat.{_-_}
 use borrow.Author.Needs.{needs}
-use Rattle.stage2.proofs.Steps.{candidates-are}
+use lib.Dec.{lit<}
+use Rattle.stage2.proofs.Steps.{four-candidates}
 use Rattle.stage2.proofs.normalize_candidates.Statement.{statement}
 use Rattle.stage2.proofs.normalize_candidates.Tie as tie
 
@@ -9,23 +10,23 @@ roots-requires : tie.Need-roots-requires
 roots-requires c κs = search needs
 
 candidate-requires : tie.Need-candidate-requires
-candidate-requires c κs = search needs
+candidate-requires c κs = (c .before .roots .ensures, lit< tt, c .before .before .pre 0 (lit< tt))
 
 candidate-requires-2 : tie.Need-candidate-requires-2
-candidate-requires-2 c κs = search needs
+candidate-requires-2 c κs = let r = c .before .before .before in (r .roots .ensures, lit< tt, r .before .pre 1 (lit< tt))
 
 candidate-requires-3 : tie.Need-candidate-requires-3
-candidate-requires-3 c κs = search needs
+candidate-requires-3 c κs = let r = c .before .before .before .before .before in (r .roots .ensures, lit< tt, r .before .pre 2 (lit< tt))
 
 candidate-requires-4 : tie.Need-candidate-requires-4
-candidate-requires-4 c κs = search needs
+candidate-requires-4 c κs = let r = c .before .before .before .before .before .before .before in (r .roots .ensures, lit< tt, r .before .pre 3 (lit< tt))
 
 returns : tie.Need-returns
 returns c =
     let n = c .before .before in
     let m = n .before .before in
     let f = m .before .before in
-    candidates-are _ _ _ _ _ (f .candidate .ensures) (m .candidate2 .ensures) (n .candidate3 .ensures) (c .candidate4 .ensures)
+    four-candidates (f .before .before .before .args .v .now) _ _ _ _ (f .candidate .ensures) (m .candidate2 .ensures) (n .candidate3 .ensures) (c .candidate4 .ensures)
 
 pub normalize-candidates-spec : {M : Type 1} → statement M
 normalize-candidates-spec =

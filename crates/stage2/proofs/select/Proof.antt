@@ -7,7 +7,7 @@ use borrow.Author.Needs.{needs}
 use lib.Ieee.{Float}
 use Rattle.candidates.specs.Scan.{choices, winnerOf}
 use Rattle.candidates.proofs.Choices.{choices-are, choice-shape, winner-under}
-use Rattle.stage2.proofs.Steps.{selected-is}
+use Rattle.stage2.proofs.Steps.{four-rows, candidates-are, selected-is}
 use Rattle.stage2.proofs.select.Statement.{statement}
 use Rattle.stage2.proofs.select.Tie as tie
 
@@ -16,7 +16,7 @@ in-scan : (t : List Float) (q : List (List Float)) (i : ℕ) → i ≡ winnerOf 
 in-scan t q i e = rw e (winner-under t q)
 
 normalize-candidates-requires : tie.Need-normalize-candidates-requires
-normalize-candidates-requires c κs = search needs
+normalize-candidates-requires c κs = four-rows _ _ (c .pre)
 
 scanned-gains-requires : tie.Need-scanned-gains-requires
 scanned-gains-requires c κs = search needs
@@ -43,7 +43,7 @@ returns : tie.Need-returns
 returns c =
     let w = c .before .before in
     let g = w .before .before .before in
-    selected-is _ _ _ _ _ (g .before .normalize-candidates .ensures) (g .scanned-gains .ensures) (w .winner .ensures) (c .before .choice-at .ensures)
+    selected-is _ _ _ _ _ (candidates-are _ _ _ (g .before .before .pre) (g .before .normalize-candidates .ensures)) (g .scanned-gains .ensures) (w .winner .ensures) (c .before .choice-at .ensures)
 
 pub select-spec : {M : Type 1} → statement M
 select-spec =
