@@ -6,31 +6,26 @@ use program_input::bits_of;
 use program_input::float_of;
 use program_text::print;
 
-fn taken(x: f32) {
-    print::hex(b" taken ", bits_of(x));
-}
-
-fn too_far(x: f32) {
-    print::hex(b" no 8 ", bits_of(x));
-}
-
-// The answer for one factor.
-fn checked(x: f32) {
-    match sns_check::check_factor(x) {
-        Checked::Within(y) => taken(y),
-        Checked::TooFar(y) => too_far(y),
-        Checked::NotFinite => print::words(b" no 7"),
-    }
-}
-
 // A factor by its bits, and its answer.
 fn check(bits: u32) {
     print::hex(b"check ", bits);
-    checked(float_of(bits));
+    match sns_check::check_factor(float_of(bits)) {
+        Checked::Within(x) => print::hex(b" taken ", bits_of(x)),
+        Checked::TooFar(x) => print::hex(b" no 8 ", bits_of(x)),
+        Checked::NotFinite => print::words(b" no 7"),
+    }
     print::end_line();
 }
 
-// 64.0 and its neighbours on both sides, zeros, the infinities, and a NaN, which has no bits of its own.
+// A NaN has no bits of its own.
+fn check_nan() {
+    match sns_check::check_factor(0.0 / 0.0) {
+        Checked::NotFinite => print::words(b"check nan no 7\n"),
+        _ => print::end_line(),
+    }
+}
+
+// 64.0 and its neighbours on both sides, zeros, the infinities and a NaN.
 fn checks() {
     check(0x4280_0000);
     check(0x4280_0001);
@@ -41,22 +36,19 @@ fn checks() {
     check(0x8000_0000);
     check(0x7f80_0000);
     check(0xff80_0000);
-    print::words(b"check nan");
-    checked(0.0 / 0.0);
-    print::end_line();
+    check_nan();
 }
 
-// Sixteen factors as so many bands.
-fn spread(factors: &[f32; 16], band_count: u32, bands: &mut [f32]) {
-    sns_interpolate::interpolate(factors, band_count, bands);
-    print::floats(bands);
-}
-
+// Sixteen factors as 64 bands and as 60.
 fn bands(factors: &[f32; 16]) {
+    let mut wide = [0.0f32; 64];
+    sns_interpolate::interpolate(factors, 64, &mut wide);
     print::words(b"bands 64");
-    spread(factors, 64, &mut [0.0; 64]);
+    print::floats(&wide);
+    let mut narrow = [0.0f32; 60];
+    sns_interpolate::interpolate(factors, 60, &mut narrow);
     print::words(b"bands 60");
-    spread(factors, 60, &mut [0.0; 60]);
+    print::floats(&narrow);
 }
 
 // Factors 0, 8, 8, ..., and factors 14 and 15 of 0 and 8.
@@ -130,25 +122,23 @@ fn syntheses() {
     });
 }
 
-// The lines of 8 kHz, shaped.
-fn spectrum(ten_ms: bool, band_count: u32, gains: &[f32], lines: &mut [f32]) {
-    sns_shape::shape(0, ten_ms, band_count, gains, lines);
-    print::words(b"lines");
-    print::floats(lines);
-}
-
-// 80 lines of 10 ms, and two past the last limit; the product of line 78 is infinite.
+// 80 lines of 8 kHz and 10 ms, and two past the last limit; the product of line 78 is infinite.
 fn wide_spectrum() {
     let mut gains = [2.0f32; 64];
     gains[63] = 4.0;
     let mut lines = [1.5f32; 82];
     lines[78] = float_of(0x7f7f_ffff);
-    spectrum(true, 64, &gains, &mut lines);
+    sns_shape::shape(0, true, 64, &gains, &mut lines);
+    print::words(b"lines");
+    print::floats(&lines);
 }
 
-// 60 lines of 7.5 ms, and one past the last limit.
+// 60 lines of 8 kHz and 7.5 ms, and one past the last limit.
 fn narrow_spectrum() {
-    spectrum(false, 60, &[0.5; 60], &mut [3.0; 61]);
+    let mut lines = [3.0f32; 61];
+    sns_shape::shape(0, false, 60, &[0.5; 60], &mut lines);
+    print::words(b"lines");
+    print::floats(&lines);
 }
 
 fn main() {

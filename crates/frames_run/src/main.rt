@@ -41,17 +41,16 @@ fn bits_added(sum: u32, values: &[f32]) -> u32 {
     all
 }
 
-fn bands_added(sum: u32, factors: &[f32; 16], band_count: u32, bands: &mut [f32]) -> u32 {
-    sns_interpolate::interpolate(factors, band_count, bands);
-    bits_added(sum, bands)
-}
-
 // The sum with a frame's band values added: 60 of them, or 64.
-fn frame_added(sum: u32, factors: &[f32; 16], band_count: u32) -> u32 {
+fn bands_added(sum: u32, factors: &[f32; 16], band_count: u32) -> u32 {
     if band_count == 60 {
-        return bands_added(sum, factors, 60, &mut [0.0; 60]);
+        let mut narrow = [0.0f32; 60];
+        sns_interpolate::interpolate(factors, 60, &mut narrow);
+        return bits_added(sum, &narrow);
     }
-    bands_added(sum, factors, 64, &mut [0.0; 64])
+    let mut wide = [0.0f32; 64];
+    sns_interpolate::interpolate(factors, 64, &mut wide);
+    bits_added(sum, &wide)
 }
 
 // How many frames there were and how many were accepted, and the sum.
@@ -75,7 +74,7 @@ fn frame(band_count: u32, s: Seen) -> Seen {
     Seen {
         frames: wrapping_add_u64(s.frames, 1),
         accepted: accepted_with(answer, s.accepted),
-        sum: frame_added(s.sum, &factors, band_count),
+        sum: bands_added(s.sum, &factors, band_count),
     }
 }
 

@@ -4,31 +4,23 @@
 ghost use Prim.Native.Nat.{_+_, _*_, _≤_};
 ghost use lib.ListN.{length};
 
-// A little-endian word with its next byte: after four bytes, the lowest first, it is whole.
-fn pushed(word: u32, byte: u8) -> u32 {
-    word >> 8 | (byte as u32) << 24
-}
-
-// The word of the four bytes from `at` on.
+// The word of the four bytes from `at` on, the lowest first: each goes in at the top, and moves down as the next ones come.
 pub fn word(bytes: &[u8], at: usize) -> u32
     requires { ⌜ at + 4 ≤ length (now bytes) ⌝ }
 {
     let mut word = 0u32;
     let mut n = 0usize;
     while n < 4 {
-        word = pushed(word, bytes[at + n]);
+        word = word >> 8 | (bytes[at + n] as u32) << 24;
         n += 1;
     }
     word
 }
 
-// The float of a pattern; every NaN is one.
+// The float of a pattern; every NaN is one. Its pattern, but for the sign, is above that of infinity.
 pub fn float_of(bits: u32) -> f32 {
-    if bits % 2147483648 / 8388608 == 255 {
-        if bits % 8388608 != 0 {
-            return 0.0 / 0.0;
-        }
-        return f32::from_bits(bits);
+    if 0x7f80_0000 < bits % 0x8000_0000 {
+        return 0.0 / 0.0;
     }
     f32::from_bits(bits)
 }

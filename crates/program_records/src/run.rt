@@ -1,13 +1,14 @@
 // Every record until the input ends, a line each, and the summary.
 use crate::frames::put_line;
 use crate::frames::quantized_record;
+use crate::frames::refused_of;
 use libc::STDIN_FILENO;
 use program_input::whole_records;
 use program_text::print;
 use program_text::text;
 use std::num::wrapping_add_u64;
 
-// Puts the lines of whole records, and answers how many were refused.
+// Puts the lines of the whole records, and answers how many were refused.
 fn put_lines(bytes: &[u8], by_bits: bool) -> u64 {
     let mut block = [0u8; 131072];
     let mut at = 0usize;
@@ -16,26 +17,11 @@ fn put_lines(bytes: &[u8], by_bits: bool) -> u64 {
     while n < whole_records(bytes) {
         let q = quantized_record(bytes, 64 * n);
         at = put_line(&mut block, at, q, by_bits);
-        refused = wrapping_add_u64(refused, (q.refusal != 0) as u64);
+        refused = wrapping_add_u64(refused, refused_of(q));
         n += 1;
     }
     text::write(&block, at);
     refused
-}
-
-// How many bytes came, and how many of their records were refused.
-struct Came {
-    got: usize,
-    refused: u64,
-}
-
-fn turn(by_bits: bool) -> Came {
-    let mut bytes = [0u8; 16384];
-    let got = io::read_full(STDIN_FILENO, &mut bytes);
-    Came {
-        got,
-        refused: put_lines(&bytes[..got], by_bits),
-    }
 }
 
 // What is left of a record is cut.
@@ -47,17 +33,18 @@ fn print_summary(bytes: u64, refused: u64) {
     print::pair(b"# records, # refused\n", bytes / 64, refused);
 }
 
-// Factors by their bits, or as decimal numbers. No input is long enough to reach the end of an u64.
+// Blocks of 256 records, until one is not full. Factors by their bits, or as decimal numbers. No input is long enough to
+// reach the end of an u64.
 pub fn run(by_bits: bool) {
+    let mut block = [0u8; 16384];
+    let mut got = 16384usize;
     let mut bytes = 0u64;
     let mut refused = 0u64;
-    let mut got = 16384usize;
     let mut turns = u64::MAX;
     while turns > 0 && got == 16384 {
-        let t = turn(by_bits);
-        got = t.got;
+        got = io::read_full(STDIN_FILENO, &mut block);
+        refused = wrapping_add_u64(refused, put_lines(&block[..got], by_bits));
         bytes = wrapping_add_u64(bytes, got as u64);
-        refused = wrapping_add_u64(refused, t.refused);
         turns -= 1;
     }
     print_summary(bytes, refused);

@@ -9,10 +9,20 @@ pub fn end_line() {
     words(b"\n");
 }
 
-// Words, and a whole number after them.
-pub fn number(bytes: &[u8], number: u64) {
-    words(bytes);
-    io::print_decimal(STDOUT_FILENO, number);
+// Words with a number in the place of each `#`: the first number, and the second from then on.
+pub fn pair(bytes: &[u8], first: u64, second: u64) {
+    let mut number = first;
+    let mut n = 0usize;
+    while n < bytes.len() {
+        let byte = bytes[n];
+        if byte == b'#' {
+            io::print_decimal(STDOUT_FILENO, number);
+            number = second;
+        } else {
+            words(&[byte]);
+        }
+        n += 1;
+    }
 }
 
 // Words, and a number's eight hexadecimal digits after them.
@@ -21,44 +31,11 @@ pub fn hex(bytes: &[u8], number: u32) {
     io::print_hex(STDOUT_FILENO, number as u64, 8);
 }
 
-fn byte_or_number(byte: u8, number: u64) {
-    if byte == b'#' {
-        io::print_decimal(STDOUT_FILENO, number);
-        return;
-    }
-    words(&[byte]);
-}
-
-// The number that is next after a byte.
-fn next_after(byte: u8, number: u64, other: u64) -> u64 {
-    if byte == b'#' {
-        return other;
-    }
-    number
-}
-
-// Words with two numbers in the place of each `#`.
-pub fn pair(bytes: &[u8], first: u64, second: u64) {
-    let mut number = first;
-    let mut n = 0usize;
-    while n < bytes.len() {
-        let byte = bytes[n];
-        byte_or_number(byte, number);
-        number = next_after(byte, number, second);
-        n += 1;
-    }
-}
-
-// A space, and a float by its bits. All NaNs are one.
-pub fn float(x: f32) {
-    hex(b" ", program_input::bits_of(x));
-}
-
-// A line of floats.
+// A line of floats by their bits, a space before each.
 pub fn floats(row: &[f32]) {
     let mut n = 0usize;
     while n < row.len() {
-        float(row[n]);
+        hex(b" ", program_input::bits_of(row[n]));
         n += 1;
     }
     end_line();

@@ -13,34 +13,26 @@ pub fn put(block: &mut Block, at: usize, byte: u8) -> usize {
     at
 }
 
-fn put_all(block: &mut Block, from: usize, bytes: &[u8]) -> usize {
+// A whole number.
+fn put_decimal(block: &mut Block, from: usize, number: u64) -> usize {
+    let mut digits = [0u8; 20];
+    let count = io::decimal(number, &mut digits);
     let mut at = from;
     let mut n = 0usize;
-    while n < bytes.len() {
-        at = put(block, at, bytes[n]);
+    while n < 20 && n < count {
+        at = put(block, at, digits[n]);
         n += 1;
     }
     at
 }
 
-// A whole number.
-fn put_decimal(block: &mut Block, at: usize, number: u64) -> usize {
-    let mut digits = [0u8; 20];
-    let n = io::decimal(number, &mut digits);
-    put_all(block, at, &digits[..n])
-}
-
-// A whole number, and a space after it.
-fn put_number(block: &mut Block, at: usize, number: u32) -> usize {
-    let end = put_decimal(block, at, number as u64);
-    put(block, end, b' ')
-}
-
+// Whole numbers, a space after each.
 pub fn put_numbers(block: &mut Block, from: usize, numbers: [u32; 9]) -> usize {
     let mut at = from;
     let mut n = 0usize;
     while n < 9 {
-        at = put_number(block, at, numbers[n]);
+        at = put_decimal(block, at, numbers[n] as u64);
+        at = put(block, at, b' ');
         n += 1;
     }
     at
@@ -58,22 +50,20 @@ fn millionths(size: f32) -> u64 {
     u64::MAX
 }
 
-// A size: whole part, point, six places. The places are put with a million before them, whose 1 gives way to the point.
-fn put_millionths(block: &mut Block, at: usize, number: u64) -> usize {
-    let point = put_decimal(block, at, number / 1000000);
+// A space, and a float as a person reads it: -1.250000. Its six places are put with a million before them, whose 1 gives
+// way to the point.
+fn put_float(block: &mut Block, at: usize, x: f32) -> usize {
+    let mut start = put(block, at, b' ');
+    let mut size = x;
+    if x < 0.0 {
+        start = put(block, start, b'-');
+        size = -x;
+    }
+    let number = millionths(size);
+    let point = put_decimal(block, start, number / 1000000);
     let end = put_decimal(block, point, 1000000 + number % 1000000);
     put(block, point, b'.');
     end
-}
-
-// A space, and a float as a person reads it: -1.250000.
-fn put_float(block: &mut Block, at: usize, x: f32) -> usize {
-    let start = put(block, at, b' ');
-    if x < 0.0 {
-        let sign = put(block, start, b'-');
-        return put_millionths(block, sign, millionths(-x));
-    }
-    put_millionths(block, start, millionths(x))
 }
 
 pub fn put_floats(block: &mut Block, from: usize, row: [f32; 16]) -> usize {

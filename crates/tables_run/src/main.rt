@@ -25,22 +25,12 @@ fn print_gains() {
     print::floats(&tables::sns_vq_far_adj_gains());
 }
 
-fn print_number(n: u64) {
-    print::number(b" ", n);
-}
-
-fn print_offset(n: usize, k: usize)
-    requires { ⌜ (n < 16) × (k < 11) ⌝ }
-{
-    print_number(mpvq_offset(n, k) as u64);
-}
-
 fn print_offsets(n: usize)
     requires { ⌜ n < 16 ⌝ }
 {
     let mut k = 0usize;
     while k < 11 {
-        print_offset(n, k);
+        print::pair(b" #", mpvq_offset(n, k) as u64, 0);
         k += 1;
     }
     print::end_line();
@@ -49,7 +39,7 @@ fn print_offsets(n: usize)
 fn print_limits(limits: [usize; 65]) {
     let mut b = 0usize;
     while b < 65 {
-        print_number(limits[b] as u64);
+        print::pair(b" #", limits[b] as u64, 0);
         b += 1;
     }
     print::end_line();

@@ -1,5 +1,6 @@
 -- Four bytes lie in the bytes from `at` on.
-use Prim.Native.Nat.{_-_}
+use Prim.Native.Nat.{_-_, _+_}
+use native.Mathlib.Omega.{arith}
 use borrow.Author.Needs.{needs}
 use Rattle.program_input.proofs.word.Statement.{statement}
 use Rattle.program_input.proofs.word.Tie as tie
@@ -13,7 +14,7 @@ word-spec =
     (λ c. search needs)
     (λ c. search needs)
     (λ c. search needs)
-    (λ c κs. search needs)
+    (λ c. omega (arith, c .shared-slice-known .given (c .before .before .before .args .at + c .before .before .loop .n)))
     (λ c. search needs)
     (λ c. search needs)
     (λ c. search needs)

@@ -8,8 +8,9 @@ pub print-limits-spec : {M : Type 1} → statement M
 print-limits-spec =
     tie.close
     (tie.spec
-    (λ limits b₀ b. Unit)
-    (λ limits b₀ b. 65 - b)
+    (λ limits b₀ t4 b. Unit)
+    (λ limits b₀ t4 b. 65 - b)
+    (λ c. search needs)
     (λ c. search needs)
     (λ c. search needs)
     (λ c. search needs)

@@ -8,8 +8,11 @@ pub print-offsets-spec : {M : Type 1} → statement M
 print-offsets-spec =
     tie.close
     (tie.spec
-    (λ n k₀ k. Unit)
-    (λ n k₀ k. 11 - k)
+    (λ n k₀ t3 k. Unit)
+    (λ n k₀ t3 k. 11 - k)
+    (λ c. search needs)
+    (λ c. search needs)
+    (λ c κs. search needs)
     (λ c. search needs)
     (λ c κs. search needs)
     (λ c. search needs)

@@ -1,4 +1,6 @@
--- Each turn counts one down.
+-- The block keeps its length; each turn counts one down.
+use mathlib.Core.Path.{_≡_}
+use lib.ListN.{length}
 use borrow.Author.Needs.{needs}
 use Rattle.program_records.proofs.run.run.Statement.{statement}
 use Rattle.program_records.proofs.run.run.Tie as tie
@@ -7,8 +9,12 @@ pub run-spec : {M : Type 1} → statement M
 run-spec =
     tie.close
     (tie.spec
-    (λ by-bits bytes₀ refused₀ got₀ turns₀ bytes refused got turns. Unit)
-    (λ by-bits bytes₀ refused₀ got₀ turns₀ bytes refused got turns. turns)
+    (λ by-bits block₀ got₀ bytes₀ refused₀ turns₀ block got bytes refused turns. 16384 ≡ length block)
+    (λ by-bits block₀ got₀ bytes₀ refused₀ turns₀ block got bytes refused turns. turns)
+    (λ c. search needs)
+    (λ c. search needs)
+    (λ c κs. search needs)
+    (λ c. search needs)
     (λ c. search needs)
     (λ c κs. search needs)
     (λ c κs. search needs)

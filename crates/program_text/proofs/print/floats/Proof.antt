@@ -9,11 +9,13 @@ pub floats-spec : {M : Type 1} → statement M
 floats-spec =
     tie.close
     (tie.spec
-    (λ row n₀ n. Unit)
-    (λ row n₀ n. length row - n)
+    (λ row n₀ t3 n. Unit)
+    (λ row n₀ t3 n. length row - n)
     (λ c. search needs)
     (λ c. search needs)
     (λ c. search needs)
+    (λ c. search needs)
+    (λ c κs. search needs)
     (λ c κs. search needs)
     (λ c. search needs)
     (λ c. search needs)
