@@ -17,10 +17,11 @@ pub fn put(block: &mut Block, at: usize, byte: u8) -> usize {
 fn put_decimal(block: &mut Block, from: usize, number: u64) -> usize {
     let mut digits = [0u8; 20];
     let count = io::decimal(number, &mut digits);
+    let text = &digits[..count];
     let mut at = from;
     let mut n = 0usize;
-    while n < 20 && n < count {
-        at = put(block, at, digits[n]);
+    while n < text.len() {
+        at = put(block, at, text[n]);
         n += 1;
     }
     at
@@ -50,8 +51,20 @@ fn millionths(size: f32) -> u64 {
     u64::MAX
 }
 
-// A space, and a float as a person reads it: -1.250000. Its six places are put with a million before them, whose 1 gives
-// way to the point.
+// The last six digits of a number, zeros in front.
+fn put_places(block: &mut Block, from: usize, number: u64) -> usize {
+    let mut at = from;
+    let mut rest = number % 1000000;
+    let mut n = 0usize;
+    while n < 6 {
+        at = put(block, at, 48 + (rest / 100000) as u8);
+        rest = rest % 100000 * 10;
+        n += 1;
+    }
+    at
+}
+
+// A space, and a float as a person reads it: -1.250000.
 fn put_float(block: &mut Block, at: usize, x: f32) -> usize {
     let mut start = put(block, at, b' ');
     let mut size = x;
@@ -60,10 +73,9 @@ fn put_float(block: &mut Block, at: usize, x: f32) -> usize {
         size = -x;
     }
     let number = millionths(size);
-    let point = put_decimal(block, start, number / 1000000);
-    let end = put_decimal(block, point, 1000000 + number % 1000000);
-    put(block, point, b'.');
-    end
+    let whole = put_decimal(block, start, number / 1000000);
+    let point = put(block, whole, b'.');
+    put_places(block, point, number)
 }
 
 pub fn put_floats(block: &mut Block, from: usize, row: [f32; 16]) -> usize {
