@@ -49,7 +49,7 @@ pub fn refused_of(q: Quantized) -> u64 {
     }
 }
 
-// Puts a record's line. A refusal, and factors by their bits, are written out at once, after the text before them.
+// Puts a record's line. Factors by their bits are written out at once, after the text before them.
 pub fn put_line(block: &mut Block, at: usize, q: Quantized, by_bits: bool) -> usize {
     let answer = q.answer;
     match answer {
@@ -67,9 +67,7 @@ pub fn put_line(block: &mut Block, at: usize, q: Quantized, by_bits: bool) -> us
             text::put(block, last, b'\n')
         }
         Answer::No(number, place) => {
-            text::write(block, at);
-            print::pair(b"refused # at #\n", number as u64, place as u64);
-            0
+            text::put_pair(block, at, b"refused # at #\n", number as u64, place as u64)
         }
     }
 }

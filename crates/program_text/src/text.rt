@@ -27,6 +27,24 @@ fn put_decimal(block: &mut Block, from: usize, number: u64) -> usize {
     at
 }
 
+// Words with a number in the place of each `#`: the first number, and the second from then on.
+pub fn put_pair(block: &mut Block, from: usize, bytes: &[u8], first: u64, second: u64) -> usize {
+    let mut at = from;
+    let mut number = first;
+    let mut n = 0usize;
+    while n < bytes.len() {
+        let byte = bytes[n];
+        if byte == b'#' {
+            at = put_decimal(block, at, number);
+            number = second;
+        } else {
+            at = put(block, at, byte);
+        }
+        n += 1;
+    }
+    at
+}
+
 // Whole numbers, a space after each.
 pub fn put_numbers(block: &mut Block, from: usize, numbers: [u32; 9]) -> usize {
     let mut at = from;
