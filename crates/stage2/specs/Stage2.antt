@@ -37,7 +37,7 @@ pulsesFor t shape = shapePulses (absolutesOf t) shape
 abbrev pub signedFor : List Float → ℕ → List ℤ
 signedFor t shape = signedRow t (pulsesFor t shape)
 
--- four rows, each of them a shape's sixteen pulses
+-- four rows of sixteen pulses, each with a length
 abbrev pub FourRows : List (List ℤ) → Type 0
 FourRows v = (shape : ℕ) → shape < 4 → Sixteen (getD v shape [])
 
