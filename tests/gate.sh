@@ -4,6 +4,9 @@
 # 'N passed, 0 failed', is held back until all of that has passed: a failure anywhere is an exit status and no such line.
 set -eu
 cd "$(dirname "$0")/.."
+# rt waits for all jobs of a batch before it starts the next, so a batch has one job more than there are processors
+RT_JOBS=${RT_JOBS:-$(($(nproc) + 1))}
+export RT_JOBS
 said=$(mktemp)
 trap 'rm -f "$said" "$said.status"' EXIT
 { rt ci 2>&1 && status=0 || status=$?; echo "$status" >"$said.status"; } | tee "$said" | sed -u '$d'

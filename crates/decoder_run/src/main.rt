@@ -62,7 +62,26 @@ fn interpolations() {
 }
 
 // The bands of a frame.
-fn decode(frame: Fields) {
+fn decode(
+    low_row: u32,
+    high_row: u32,
+    shape: u32,
+    gain: u32,
+    sign_a: u32,
+    sign_b: u32,
+    index_a: u32,
+    index_b: u32,
+) {
+    let frame = Fields {
+        low_row,
+        high_row,
+        shape,
+        gain,
+        sign_a,
+        sign_b,
+        index_a,
+        index_b,
+    };
     let mut factors = [0.0f32; 16];
     sns_decode::decode(frame, &mut factors);
     bands(&factors);
@@ -70,56 +89,11 @@ fn decode(frame: Fields) {
 
 // Each shape, its first and last gain, and both ends of the indices.
 fn syntheses() {
-    decode(Fields {
-        low_row: 0,
-        high_row: 0,
-        shape: 0,
-        gain: 0,
-        sign_a: 0,
-        sign_b: 0,
-        index_a: 0,
-        index_b: 0,
-    });
-    decode(Fields {
-        low_row: 31,
-        high_row: 31,
-        shape: 0,
-        gain: 1,
-        sign_a: 1,
-        sign_b: 1,
-        index_a: 2390003,
-        index_b: 5,
-    });
-    decode(Fields {
-        low_row: 17,
-        high_row: 5,
-        shape: 1,
-        gain: 3,
-        sign_a: 0,
-        sign_b: 0,
-        index_a: 1,
-        index_b: 0,
-    });
-    decode(Fields {
-        low_row: 1,
-        high_row: 2,
-        shape: 2,
-        gain: 3,
-        sign_a: 1,
-        sign_b: 0,
-        index_a: 15158271,
-        index_b: 0,
-    });
-    decode(Fields {
-        low_row: 3,
-        high_row: 4,
-        shape: 3,
-        gain: 7,
-        sign_a: 0,
-        sign_b: 0,
-        index_a: 774911,
-        index_b: 0,
-    });
+    decode(0, 0, 0, 0, 0, 0, 0, 0);
+    decode(31, 31, 0, 1, 1, 1, 2390003, 5);
+    decode(17, 5, 1, 3, 0, 0, 1, 0);
+    decode(1, 2, 2, 3, 1, 0, 15158271, 0);
+    decode(3, 4, 3, 7, 0, 0, 774911, 0);
 }
 
 // 80 lines of 8 kHz and 10 ms, and two past the last limit; the product of line 78 is infinite.
