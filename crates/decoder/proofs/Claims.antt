@@ -19,7 +19,7 @@ pub synthesisable : (f : Fields) → Accepted f → Synthesisable (f .«low_row�
 synthesisable f h = record { tables = h .tables; shaped = pulses-shaped (f .shape) (numbersIn f) (h .indexed) }
 
 pub within-11 : Within11
-within-11 f h n l = subst (λ (x : Float). Within x 11 1) (sym (getD-listOf 16 _ nan n l)) (factors-within-11 _ _ _ _ (fieldPulses f) (synthesisable f h) n l)
+within-11 f h n l = factors-within-11 _ _ _ _ (fieldPulses f) (synthesisable f h) n l
 
 pub within-64 : Within64
 within-64 f h n l = within-up (getD (fieldFactors f) n nan) 11 1 64 1 (lit< tt) (lit≤ tt) (within-11 f h n l)

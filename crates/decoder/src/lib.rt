@@ -36,12 +36,10 @@ pub fn factors(f: Fields) -> [f32; 16]
     let y = pulses(f);
     let lfcb = tables::lfcb();
     let hfcb = tables::hfcb();
-    let d = sns_tables::by_columns::d_by_columns();
     let roots = roots::roots();
     synthesis::factors(
         &lfcb,
         &hfcb,
-        &d,
         &roots,
         f.low_row as usize,
         f.high_row as usize,

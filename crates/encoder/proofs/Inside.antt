@@ -6,10 +6,10 @@ use Rattle.stage1.specs.Stage1.{residual}
 use Rattle.stage1.proofs.Nearest.{low-inside, high-inside}
 use Rattle.stage2_target.specs.Target.{targetOf}
 use Rattle.stage2.specs.Stage2.{resultOf, stage2Of}
-use Rattle.stage2.proofs.Steps.{selected-shape, selected-gain}
+use Rattle.stage2.proofs.Steps.{chosen-shape, chosen-small}
 use Rattle.encoder.specs.Quantized.{quantizedOf}
 
 pub inside : (x : List Float)
     → (quantizedOf x .stage1 .«ind_lf» < 32) × (quantizedOf x .stage1 .«ind_hf» < 32) × (quantizedOf x .stage2 .«shape_j» < 4) × (quantizedOf x .stage2 .gind < 8)
 unfolding quantizedOf stage2Of resultOf
-inside x = (low-inside x, high-inside x, selected-shape (targetOf (residual x)), selected-gain (targetOf (residual x)))
+inside x = (low-inside x, high-inside x, chosen-shape (targetOf (residual x)), chosen-small (targetOf (residual x)))

@@ -1,7 +1,8 @@
 -- What the tests for NaN and infinities say, and that a factor that is taken is within the limit. Assumes nothing.
 use mathlib.Core.Path.{_≡_, refl, sym, ap, subst}
-use mathlib.Core.Bool.{Bool, true, false, _||_, false≢true}
+use mathlib.Core.Bool.{Bool, true, false, _||_, not, false≢true}
 use Prim.Native.Nat.{ℕ, _*_}
+use borrow.Author.Tests.{le-ltb}
 use lib.Dec.{T, ltb, nltb→le}
 use lib.IntN.{ℤ, pos}
 use lib.Ieee.{Float, nan, inf, fin, up, down, lt, eq, ne, neg}
@@ -37,6 +38,14 @@ near m e (fin false n d) f h = nltb→le (m * up e * down d) (n * up d * down e)
     left true h = absurd (false≢true (sym h))
     left false h = refl
 near m e (fin true n d) f h = nltb→le (m * up e * down d) (n * up d * down e) (no h)
+
+-- and one that is within a limit is not beyond it
+pub not-beyond : (m : ℕ) (e : ℤ) (x : Float) → Within x (m * up e) (down e) → T (not (beyond (fin false m e) x))
+unfolding lt neg
+not-beyond m e nan h = absurd h
+not-beyond m e (inf s) h = absurd h
+not-beyond m e (fin false n d) h = no (ap (λ (b : Bool). b || false) (le-ltb (m * up e * down d) (n * up d * down e) h))
+not-beyond m e (fin true n d) h = no (le-ltb (m * up e * down d) (n * up d * down e) h)
 
 -- by the written limit
 pub within-limit : (x : Float) → T (finite x) → beyond factorLimit x ≡ false → Within x 64 1

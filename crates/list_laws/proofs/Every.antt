@@ -5,6 +5,7 @@ use mathlib.Core.Bool.{Bool, true, false}
 use mathlib.Core.List.{List, [], _∷_}
 use Prim.Native.Nat.{ℕ, zero, suc, _+_, _<_}
 use native.Mathlib.Nat.{add-zero, zero-add, add-suc, suc-add, le-of-suc-le-suc, not-suc-le-zero, eq-or-lt-of-le}
+use native.Mathlib.Omega.{arith}
 use lib.Dec.{T, eqb, eqb→eq}
 use lib.ListN.{length, getD}
 use Rattle.list_laws.specs.Every.{both, everyBelow, every, everyFrom, gridFrom}
@@ -16,6 +17,10 @@ both-left false b t = t
 pub both-right : (a b : Bool) → T (both a b) → T b
 both-right true b t = t
 both-right false b t = absurd t
+
+pub both-are : (a b : Bool) → T a → T b → T (both a b)
+both-are true b t u = u
+both-are false b t u = t
 
 pub at-below : (n : ℕ) (f : ℕ → Bool) → T (everyBelow n f) → (k : ℕ) → k < n → T (f k)
 at-below zero f t k h = absurd (not-suc-le-zero h)
@@ -30,6 +35,11 @@ module _ {A : Type 0} (z : A) where
   at f [] t k h = absurd (not-suc-le-zero h)
   at f (x ∷ xs) t zero h = both-left (f x) (every f xs) t
   at f (x ∷ xs) t (suc k) h = at f xs (both-right (f x) (every f xs) t) k (le-of-suc-le-suc h)
+
+  -- and back: a test that passes at each entry passes over all of them
+  pub all : (f : A → Bool) (xs : List A) → ((k : ℕ) → k < length xs → T (f (getD xs k z))) → T (every f xs)
+  all f [] h = tt
+  all f (x ∷ xs) h = both-are (f x) (every f xs) (h 0 (omega arith)) (all f xs (λ k l. h (suc k) (omega arith)))
 
   from : (f : ℕ → A → Bool) (xs : List A) (i : ℕ) → T (everyFrom f i xs) → (k : ℕ) → k < length xs → T (f (i + k) (getD xs k z))
   from f [] i t k h = absurd (not-suc-le-zero h)

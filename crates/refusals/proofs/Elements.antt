@@ -13,7 +13,7 @@ use Rattle.float_laws.specs.Kind.{finite}
 use Rattle.float_laws.specs.Size.{Within}
 use Rattle.float_laws.proofs.Logic.{yes, no}
 use Rattle.list_laws.specs.Every.{both, every}
-use Rattle.list_laws.proofs.Every.{both-left, both-right, at}
+use Rattle.list_laws.proofs.Every.{both-left, both-right, both-are, at}
 use Rattle.factor.specs.Check.{factorLimit, beyond}
 use Rattle.factor.proofs.Laws as factor
 use Rattle.refusals.specs.declared.Answer.{Answer}
@@ -37,10 +37,6 @@ abbrev pub takenAs : Element → Float → Bool
 takenAs (Factor limit) x = both (finite x) (not (beyond limit x))
 takenAs Value x = finite x
 
-pair : (a b : Bool) → T a → T b → T (both a b)
-pair true b t u = u
-pair false b t u = t
-
 is : (b : Bool) → T b → b ≡ true
 is true t = refl
 is false t = absurd t
@@ -55,7 +51,7 @@ one-done Value place x t = not-given 12 place _ _ (ap not (is (finite x) t)) non
 done-one : (element : Element) (place : ℕ) (x : Float) → answerOf (elementAsked element place x) ≡ Done → T (takenAs element x)
 done-one (Factor limit) place x e =
     let d = done 7 place (not (finite x)) _ e in
-    pair (finite x) (not (beyond limit x)) (yes (not-false (finite x) (d .0))) (no {b = beyond limit x} (done 8 place (beyond limit x) _ (d .1) .0))
+    both-are (finite x) (not (beyond limit x)) (yes (not-false (finite x) (d .0))) (no {b = beyond limit x} (done 8 place (beyond limit x) _ (d .1) .0))
 done-one Value place x e = yes (not-false (finite x) (done 12 place (not (finite x)) _ e .0))
 
 -- a row of them
@@ -71,7 +67,7 @@ unfolding elementQuestions
 done-all element place [] e = tt
 done-all element place (x ∷ xs) e =
     let d = both-done (elementAsked element place x) _ e in
-    pair (takenAs element x) (every (takenAs element) xs) (done-one element place x (d .0)) (done-all element (suc place) xs (d .1))
+    both-are (takenAs element x) (every (takenAs element) xs) (done-one element place x (d .0)) (done-all element (suc place) xs (d .1))
 
 -- ---- each factor of a row that is taken is within the limit
 pub within-limit : (xs : List Float) → answerOf (elementQuestions (Factor factorLimit) 0 xs) ≡ Done → (i : ℕ) → i < length xs → Within (getD xs i nan) 64 1

@@ -12,7 +12,8 @@ use Rattle.sns_interpolate.proofs.Claims as interpolate
 use Rattle.sns_shape.proofs.Claims as shape
 use Rattle.sns_number.proofs.Claims as number
 use Rattle.sns.proofs.EncodeClaims as third
-use Rattle.sns.specs.Demands.{Answered, Kept, Taken, Numbered, Unbeaten}
+use Rattle.sns.proofs.Alike as alike
+use Rattle.sns.specs.Demands.{Answered, Kept, Taken, Numbered, Unbeaten, Alike}
 
 pub answered : Answered
 answered =
@@ -76,4 +77,15 @@ unbeaten =
       shapes-held = shapes-held;
       one-search = one-search;
       record-ordered = record-ordered;
+    }
+
+pub ends-alike : Alike
+ends-alike =
+    record {
+      both-alike = alike.both-alike;
+      calls-alike = alike.calls-alike;
+      encoded-within = alike.encoded-within;
+      encoded-bands = alike.encoded-bands;
+      bands-alike = alike.bands-alike;
+      lines-alike = alike.lines-alike;
     }

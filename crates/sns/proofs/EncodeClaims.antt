@@ -11,10 +11,10 @@ use Rattle.float_laws.specs.Bounded.{Bounded}
 use Rattle.shape_numbers.proofs.Claims.{numbers-indexed, pulses-again}
 use Rattle.stage1.specs.Stage1.{residual}
 use Rattle.stage2_target.specs.Target.{targetOf}
-use Rattle.stage2.specs.Stage2.{selectedOf, signedFor, resultOf, stage2Of}
+use Rattle.stage2.specs.Stage2.{choiceOf, signedFor, resultOf, stage2Of}
 use Rattle.stage2.proofs.Claims.{none-below}
 use Rattle.stage2.proofs.Signs.{signed-shaped}
-use Rattle.stage2.proofs.Steps.{selected-held}
+use Rattle.stage2.proofs.Steps.{chosen-gain}
 use Rattle.encoder.specs.Quantized.{quantizedOf}
 use Rattle.encoder.proofs.Claims.{all-nearest}
 use Rattle.encoder.proofs.Inside.{inside}
@@ -26,7 +26,7 @@ use Rattle.refusals.proofs.Answers.{done}
 use Rattle.refusals.proofs.Elements.{within-limit}
 
 pub all-answered : AllAnswered
-unfolding quantizedOf stage2Of resultOf selectedOf
+unfolding quantizedOf stage2Of resultOf
 all-answered factors = record { low = refl; high = refl; shape = refl; gain = refl }
 
 -- factors that are taken are within 64, and so within 512
@@ -43,7 +43,7 @@ pub none-beats : NoneBeats
 none-beats factors len e = all-nearest factors (taken-bounded factors len e)
 
 pub no-gain-beats : NoGainBeats
-unfolding quantizedOf stage2Of resultOf selectedOf
+unfolding quantizedOf stage2Of resultOf
 no-gain-beats factors len e shape gain s g = none-below (targetOf (residual factors)) (none-beats factors len e .choice) shape gain s g
 
 -- ---- decoded again
@@ -52,14 +52,14 @@ pub decodes-again : DecodesAgain
 unfolding quantizedOf stage2Of resultOf
 decodes-again factors =
     let t = targetOf (residual factors) in
-    let s = selectedOf t .«shape_j» in
+    let s = choiceOf t .shape in
     let i = inside factors in
     let h = signed-shaped t s in (
       decode-takes (fieldsOf (quantizedOf factors)) 16 .0
           (record {
             long = refl;
             fields = record {
-              tables = record { low-row = i .0; high-row = i .1; shape-below = i .2; gain-below = selected-held t };
+              tables = record { low-row = i .0; high-row = i .1; shape-below = i .2; gain-below = chosen-gain t };
               indexed = numbers-indexed s (signedFor t s) h;
             };
           }),

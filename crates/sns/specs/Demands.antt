@@ -13,6 +13,7 @@ use Rattle.sns_interpolate.specs.Claims as interpolate
 use Rattle.sns_shape.specs.Claims as shape
 use Rattle.sns_number.specs.Claims as number
 use Rattle.sns.specs.EncodeClaims as third
+use Rattle.sns.specs.Alike as alike
 
 -- 1. Any numbers and any buffers get an answer. A call is refused with the first of its questions that is given, always then and only
 -- then, and done exactly when none is; two results that a call's statement allows are equal, and so are the buffers; one factor has
@@ -71,3 +72,14 @@ pub record Unbeaten : Type 0 where
   pub shapes-held : shapes.ShapesHeld
   pub one-search : shapes.OneSearch
   pub record-ordered : pulses.RecordOrdered
+
+-- Both ends shape alike: the sixteen factors from the encoder equal, bit for bit, those the decoder makes from its answer, and what encode
+-- leaves is what decode of its answer leaves, whatever both buffers held. They lie within 11, so interpolate takes them; and the bands, and the
+-- lines that are shaped by gains made of them by one rule, are equal at both ends.
+pub record Alike : Type 0 where
+  pub both-alike : alike.BothAlike
+  pub calls-alike : alike.CallsAlike
+  pub encoded-within : alike.EncodedWithin
+  pub encoded-bands : alike.EncodedBands
+  pub bands-alike : alike.BandsAlike
+  pub lines-alike : alike.LinesAlike

@@ -1,2 +1,3 @@
 pub mod EncodeClaims
+pub mod Alike
 pub mod Demands

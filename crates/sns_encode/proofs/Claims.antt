@@ -11,7 +11,8 @@ use Rattle.refusals.specs.declared.Answer.{Answer}
 use Rattle.refusals.specs.declared.Answer.the-variants.{Done, No}
 use Rattle.refusals.specs.declared.Element.the-variants.{Factor}
 use Rattle.refusals.specs.Answers.{kept}
-use Rattle.sns_encode.specs.Encode.{encodeQuestions, encodeAnswer, encodedAs}
+use Rattle.sns_encode.specs.declared.Encoded.{Encoded}
+use Rattle.sns_encode.specs.Encode.{encodeQuestions, encodeAnswer, encodedAs, EncodeSays}
 use Rattle.sns_encode.specs.Claims.{EncodePinned, EncodeKeeps, FactorsAlone, EncodeTaken, EncodeTakes}
 use Rattle.refusals.proofs.Answers.{done}
 use Rattle.refusals.proofs.Elements.{all-done, done-all}
@@ -28,6 +29,13 @@ pub encode-keeps : EncodeKeeps
 encode-keeps factors old r new number place (p, q) e =
     let refused = sym (answered-by (encodeAnswer factors (length old)) (quantizedOf factors)) ∙ sym (ap (λ x. x .answer) p) ∙ e in
     (q ∙ ap (λ a. kept a (quantizedOf factors .stage2 .scfq) old) refused, p ∙ ap (λ a. encodedAs a (quantizedOf factors)) refused)
+
+-- a call that is done answers what is quantized, and fills the buffer with its factors
+pub encode-fills : (factors old : List Float) (r : Encoded) (new : List Float) → EncodeSays factors old r new → r .answer ≡ Done
+    → (r ≡ encodedAs Done (quantizedOf factors)) × (new ≡ quantizedOf factors .stage2 .scfq)
+encode-fills factors old r new (p, q) e =
+    let taken = sym (answered-by (encodeAnswer factors (length old)) (quantizedOf factors)) ∙ sym (ap (λ x. x .answer) p) ∙ e in
+    (p ∙ ap (λ a. encodedAs a (quantizedOf factors)) taken, q ∙ ap (λ a. kept a (quantizedOf factors .stage2 .scfq) old) taken)
 
 pub factors-alone : FactorsAlone
 factors-alone factors old old′ r r′ new new′ l (p, q) (p′, q′) = (p ∙ same ∙ sym p′, λ d. filled old new q d ∙ sym (filled old′ new′ q′ (sym (ap (encodeAnswer factors) l) ∙ d)))

@@ -8,7 +8,7 @@ use Rattle.float_laws.specs.Running.{sumTo}
 use Rattle.float_laws.specs.Scan.{leastTo}
 use Rattle.list_laws.specs.ListOf.{listOf}
 use Rattle.sns_tables.specs.Codebooks.{lfcbRows, hfcbRows, codeAt}
-use Rattle.sns_tables.specs.Codes.{codeOf}
+use Rattle.sns_tables.specs.Codes.{codeOf, codesOf}
 use Rattle.stage1.specs.declared.SnsStage1Result.{SnsStage1Result}
 
 -- for a row, add the squares of factor minus code over 8 places, from 0.0, ascending
@@ -39,7 +39,7 @@ rowsOf x = record { «ind_lf» = lowRow x; «ind_hf» = highRow x }
 
 -- the codes of both rows
 abbrev pub codes : List Float → List Float
-codes x = listOf 16 (codeOf (lowRow x) (highRow x))
+codes x = codesOf (lowRow x) (highRow x)
 
 -- residual = factor minus code
 abbrev pub residual : List Float → List Float

@@ -10,6 +10,7 @@ use Rattle.float_laws.proofs.Size.{bounded-finite}
 use Rattle.frame_fields.proofs.Joint.{joint-within}
 use Rattle.shape_numbers.proofs.Claims.{numbers-indexed, pulses-again}
 use Rattle.pulse_length.proofs.Squares.{shaped-sixteen}
+use Rattle.synthesis.specs.Synthesis.{fromCodes}
 use Rattle.stage2_target.specs.Target.{targetOf, absolutesOf}
 use Rattle.stage2_target.proofs.Claims.{target-bounded, absolutes-bounded}
 use Rattle.shape_search.proofs.Sized.{searches-finite}
@@ -18,8 +19,8 @@ use Rattle.candidates.specs.Scan.{choiceAt, gainOf, distortionAt, winnerOf}
 use Rattle.candidates.specs.Claims.{Comparable}
 use Rattle.candidates.proofs.Choices.{all-tried}
 use Rattle.candidates.proofs.Claims.{units, winner-first, winner-only}
-use Rattle.stage2.specs.Stage2.{signedFor, candidatesOf, choiceOf, selectedOf, resultOf, stage2Of}
-use Rattle.stage2.specs.Claims.{ChoiceFirst, ChoiceOnly, distortionWith, NoneBelow, Unpacks, JointTops, ResidualNoNan}
+use Rattle.stage2.specs.Stage2.{signedFor, candidatesOf, choiceOf, resultOf, stage2Of}
+use Rattle.stage2.specs.Claims.{ChoiceFirst, ChoiceOnly, distortionWith, NoneBelow, Unpacks, FactorsAgain, JointTops, ResidualNoNan}
 use Rattle.stage2.proofs.Steps.{candidate-at}
 use Rattle.stage2.proofs.Signs.{signed-shaped}
 
@@ -47,14 +48,18 @@ none-below t f shape gain s g =
 
 pub winner-unpacks : Unpacks
 unfolding stage2Of resultOf
-winner-unpacks residual code = let t = targetOf residual in let s = selectedOf t .«shape_j» in pulses-again s (signedFor t s) (signed-shaped t s)
+winner-unpacks residual code = let t = targetOf residual in let s = choiceOf t .shape in pulses-again s (signedFor t s) (signed-shaped t s)
+
+pub factors-again : FactorsAgain
+unfolding stage2Of resultOf
+factors-again residual code = ap (fromCodes code (stage2Of residual code .«shape_j») (stage2Of residual code .gind)) (sym (winner-unpacks residual code))
 
 pub joint-tops : JointTops
 unfolding stage2Of resultOf
 joint-tops residual code =
     let t = targetOf residual in
-    let s = selectedOf t in
-    joint-within (s .«shape_j») (s .gind) _ (numbers-indexed (s .«shape_j») (signedFor t (s .«shape_j»)) (signed-shaped t (s .«shape_j»)))
+    let c = choiceOf t in
+    joint-within (c .shape) (c .gain) _ (numbers-indexed (c .shape) (signedFor t (c .shape)) (signed-shaped t (c .shape)))
 
 pub residual-no-nan : ResidualNoNan
 residual-no-nan residual B =

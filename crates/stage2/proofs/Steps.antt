@@ -16,7 +16,7 @@ use Rattle.shape_numbers.specs.Pulses.{Shaped}
 use Rattle.shape_numbers.specs.Numbers.{numbersOf}
 use Rattle.shape_numbers.proofs.Claims.{numbers-indexed}
 use Rattle.pulse_length.proofs.Squares.{shaped-sixteen}
-use Rattle.synthesis.specs.Synthesis.{synthesised}
+use Rattle.synthesis.specs.Synthesis.{scaleOf, factorOf}
 use Rattle.stage2_target.specs.Target.{targetOf}
 use Rattle.candidates.specs.declared.Choice.{Choice}
 use Rattle.candidates.specs.Scan.{choices, choiceAt, gainOf, winnerOf}
@@ -61,31 +61,30 @@ candidate-at t s h = getD-listOf 4 (λ shape. candidateOf (signedFor t shape)) [
 
 -- ---- the shape and the gain that win
 pub selected-is : (t : List Float) (q : List (List Float)) (gains : List Float) (best : ℕ) (c : Choice) → q ≡ candidatesOf t → gains ≡ listOf choices gainOf → best ≡ winnerOf t q → c ≡ choiceAt best
-    → _≡_ {A = Selected} (record { «shape_j» = c .shape; gind = c .gain; «g_gain_i_shape_j» = getD gains best nan; «sns_xq_shape_j» = getD q (c .shape) [] }) (selectedOf t)
+    → _≡_ {A = Selected} (record { «shape_j» = c .shape; gind = c .gain; «g_gain_i_shape_j» = getD gains best nan }) (selectedOf t)
 unfolding selectedOf choiceOf gainOf
 selected-is t q gains best c p g b e =
     let i = winnerOf t (candidatesOf t) in
-    let h : i < choices = winner-under t (candidatesOf t) in
-    let u : getD (listOf choices gainOf) i nan ≡ gainAt (choiceAt i .shape) (choiceAt i .gain) = getD-listOf choices gainOf nan i h in
-    let w : getD (candidatesOf t) (choiceAt i .shape) [] ≡ candidateOf (signedFor t (choiceAt i .shape)) = candidate-at t (choiceAt i .shape) (choice-shape i h) in
-    rw (e, b, p, g, u, w)
+    let u : getD (listOf choices gainOf) i nan ≡ gainAt (choiceAt i .shape) (choiceAt i .gain) = getD-listOf choices gainOf nan i (winner-under t (candidatesOf t)) in
+    rw (e, b, p, g, u)
 
-pub selected-shape : (t : List Float) → selectedOf t .«shape_j» < 4
-unfolding selectedOf choiceOf
-selected-shape t = choice-shape (winnerOf t (candidatesOf t)) (winner-under t (candidatesOf t))
+pub chosen-shape : (t : List Float) → choiceOf t .shape < 4
+unfolding choiceOf
+chosen-shape t = choice-shape (winnerOf t (candidatesOf t)) (winner-under t (candidatesOf t))
 
-pub selected-gain : (t : List Float) → selectedOf t .gind < 8
-unfolding selectedOf choiceOf
-selected-gain t = choice-small (winnerOf t (candidatesOf t)) (winner-under t (candidatesOf t))
+pub chosen-small : (t : List Float) → choiceOf t .gain < 8
+unfolding choiceOf
+chosen-small t = choice-small (winnerOf t (candidatesOf t)) (winner-under t (candidatesOf t))
 
-pub selected-held : (t : List Float) → selectedOf t .gind < gainsOf (selectedOf t .«shape_j»)
-unfolding selectedOf choiceOf
-selected-held t = choice-gain (winnerOf t (candidatesOf t)) (winner-under t (candidatesOf t))
+pub chosen-gain : (t : List Float) → choiceOf t .gain < gainsOf (choiceOf t .shape)
+unfolding choiceOf
+chosen-gain t = choice-gain (winnerOf t (candidatesOf t)) (winner-under t (candidatesOf t))
 
 -- ---- what the next steps ask, and all that is given
 module _ (t : List Float) (s : Selected) (e : s ≡ selectedOf t) where
   pub shape-room : s .«shape_j» < 4
-  shape-room = rw e (selected-shape t)
+  unfolding selectedOf
+  shape-room = rw e (chosen-shape t)
 
   module _ (v : List (List ℤ)) (f : v ≡ listOf 4 (signedFor t)) where
     row-is : getD v (s .«shape_j») [] ≡ signedFor t (s .«shape_j»)
@@ -98,10 +97,11 @@ module _ (t : List Float) (s : Selected) (e : s ≡ selectedOf t) where
       pub joint-room : Indexed (s .«shape_j») n
       joint-room = rw g (numbers-indexed (s .«shape_j») (getD v (s .«shape_j») []) numbers-room)
 
-      pub result-is : (code scfq : List Float) (j : ℕ) → j ≡ jointIndex (s .«shape_j») (s .gind) n → scfq ≡ listOf 16 (synthesised (λ n. getD code n nan) (s .«sns_xq_shape_j») (s .«g_gain_i_shape_j»))
+      pub result-is : (code scfq : List Float) (scale : Float) (j : ℕ) → j ≡ jointIndex (s .«shape_j») (s .gind) n
+          → scale ≡ scaleOf (s .«g_gain_i_shape_j») (getD v (s .«shape_j») []) → scfq ≡ listOf 16 (factorOf code (getD v (s .«shape_j») []) scale)
           → _≡_ {A = SnsStage2Result} (record { «shape_j» = s .«shape_j»; gind = s .gind; numbers = n; «index_joint_j» = j; scfq = scfq }) (resultOf t code)
-      unfolding resultOf
-      result-is code scfq j h i = rw (h, i, g, row-is, e)
+      unfolding resultOf selectedOf
+      result-is code scfq scale j h k i = rw (h, i, k, g, row-is, e)
 
 pub stage2-is : (residual code t : List Float) (r : SnsStage2Result) → t ≡ targetOf residual → r ≡ resultOf t code → r ≡ stage2Of residual code
 unfolding stage2Of

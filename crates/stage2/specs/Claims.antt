@@ -10,6 +10,7 @@ use Rattle.float_laws.specs.Bounded.{AllFinite, Bounded}
 use Rattle.float_laws.specs.Least.{FirstLeast}
 use Rattle.sns_tables.specs.Gains.{gainsOf, gainAt}
 use Rattle.shape_numbers.specs.Pulses.{Shaped, pulsesAt}
+use Rattle.synthesis.specs.Synthesis.{fromCodes}
 use Rattle.stage2_target.specs.Target.{targetOf, absolutesOf}
 use Rattle.shape_search.specs.Claims.{ComparesFinite}
 use Rattle.candidates.specs.Candidate.{distortionOf}
@@ -49,6 +50,12 @@ abbrev pub Unpacks : Type 0
 Unpacks =
     (residual code : List Float) → let r = stage2Of residual code in
     pulsesAt (r .«shape_j») (r .numbers) ≡ signedFor (targetOf residual) (r .«shape_j»)
+
+-- the sixteen factors are those of the same codes with the shape, the gain and the pulses that the signs and indices unpack to: what the decoder has
+abbrev pub FactorsAgain : Type 0
+FactorsAgain =
+    (residual code : List Float) → let r = stage2Of residual code in
+    r .scfq ≡ fromCodes code (r .«shape_j») (r .gind) (pulsesAt (r .«shape_j») (r .numbers))
 
 -- the joint index is at most 33460055 for shapes 0 and 1, and 16708095 for shapes 2 and 3
 abbrev pub JointTops : Type 0

@@ -12,7 +12,7 @@ use Rattle.frame_fields.specs.Joint.{jointIndex}
 use Rattle.numbering.specs.Numbering.{signed}
 use Rattle.shape_numbers.specs.Numbers.{numbersOf}
 use Rattle.pulse_length.specs.Length.{Sixteen}
-use Rattle.synthesis.specs.Synthesis.{synthesised}
+use Rattle.synthesis.specs.Synthesis.{fromCodes}
 use Rattle.stage2_target.specs.Target.{targetOf, absolutesOf}
 use Rattle.shape_search.specs.Shape.{shapePulses}
 use Rattle.candidates.specs.declared.Choice.{Choice}
@@ -49,28 +49,22 @@ candidatesOf t = listOf 4 (λ shape. candidateOf (signedFor t shape))
 unfoldable pub choiceOf : List Float → Choice
 choiceOf t = choiceAt (winnerOf t (candidatesOf t))
 
--- the same, with the gain's value and the shape's candidate
+-- the same, with the gain's value
 unfoldable pub selectedOf : List Float → Selected
-selectedOf t =
+selectedOf t = let c = choiceOf t in record { «shape_j» = c .shape; gind = c .gain; «g_gain_i_shape_j» = gainAt (c .shape) (c .gain) }
+
+-- All that stage 2 gives, for a target and the codes. The factors are those that the decoder makes of the codes, the shape, the gain and the signed pulses.
+unfoldable pub resultOf : List Float → List Float → SnsStage2Result
+resultOf t code =
     let c = choiceOf t in
+    let y = signedFor t (c .shape) in
+    let numbers = numbersOf (c .shape) y in
     record {
       «shape_j» = c .shape;
       gind = c .gain;
-      «g_gain_i_shape_j» = gainAt (c .shape) (c .gain);
-      «sns_xq_shape_j» = candidateOf (signedFor t (c .shape));
-    }
-
--- All that stage 2 gives, for a target and the codes. A synthesised factor is code + gain × (sum of candidate × D).
-unfoldable pub resultOf : List Float → List Float → SnsStage2Result
-resultOf t code =
-    let s = selectedOf t in
-    let numbers = numbersOf (s .«shape_j») (signedFor t (s .«shape_j»)) in
-    record {
-      «shape_j» = s .«shape_j»;
-      gind = s .gind;
       numbers = numbers;
-      «index_joint_j» = jointIndex (s .«shape_j») (s .gind) numbers;
-      scfq = listOf 16 (synthesised (λ n. getD code n nan) (s .«sns_xq_shape_j») (s .«g_gain_i_shape_j»));
+      «index_joint_j» = jointIndex (c .shape) (c .gain) numbers;
+      scfq = fromCodes code (c .shape) (c .gain) y;
     }
 
 unfoldable pub stage2Of : List Float → List Float → SnsStage2Result

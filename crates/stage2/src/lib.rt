@@ -63,42 +63,38 @@ fn candidate(roots: &[f32; 101], v: &[[i32; 16]; 4], shape: usize) -> [f32; 16]
 }
 
 // The candidates of the four shapes.
-fn normalize_candidates(v: &[[i32; 16]; 4]) -> [[f32; 16]; 4]
-    requires { ⌜ FourRows (now v) ⌝ }
+fn normalize_candidates(roots: &[f32; 101], v: &[[i32; 16]; 4]) -> [[f32; 16]; 4]
+    requires { ⌜ (now roots ≡ rootTable) × FourRows (now v) ⌝ }
     ensures { λ xq. ⌜ xq ≡ listOf 4 (λ shape. candidateOf (getD (now (v .entry)) shape [])) ⌝ }
 {
-    let roots = roots::roots();
     [
-        candidate(&roots, v, 0),
-        candidate(&roots, v, 1),
-        candidate(&roots, v, 2),
-        candidate(&roots, v, 3),
+        candidate(roots, v, 0),
+        candidate(roots, v, 1),
+        candidate(roots, v, 2),
+        candidate(roots, v, 3),
     ]
 }
 
-// The shape and the gain that win, with the candidate of the one and the value of the other.
+// The shape and the gain that win, with the gain's value.
 pub struct Selected {
     pub shape_j: usize,
     pub gind: usize,
     pub g_gain_i_shape_j: f32,
-    pub sns_xq_shape_j: [f32; 16],
 }
 
 // Shape and gain combination determination.
-fn select(t2rot: &[f32; 16], v: &[[i32; 16]; 4]) -> Selected
-    requires { ⌜ now v ≡ listOf 4 (signedFor (now t2rot)) ⌝ }
+fn select(roots: &[f32; 101], t2rot: &[f32; 16], v: &[[i32; 16]; 4]) -> Selected
+    requires { ⌜ (now roots ≡ rootTable) × (now v ≡ listOf 4 (signedFor (now t2rot))) ⌝ }
     ensures { λ s. ⌜ s ≡ selectedOf (now (t2rot .entry)) ⌝ }
 {
-    let xq = normalize_candidates(v);
+    let xq = normalize_candidates(roots, v);
     let gains = candidates::scanned_gains();
     let best = candidates::winner(t2rot, &xq, &gains);
     let c = candidates::choice_at(best);
-    let shape_j = c.shape;
     Selected {
-        shape_j: shape_j,
+        shape_j: c.shape,
         gind: c.gain,
         g_gain_i_shape_j: gains[best],
-        sns_xq_shape_j: xq[shape_j],
     }
 }
 
@@ -116,17 +112,18 @@ pub fn sns_quant_stage2(r1: &[f32; 16], st1: &[f32; 16]) -> SnsStage2Result
     let v = add_signs(&t2rot, &y);
 
     // step 9: each shape's candidate; then the shape and the gain
-    let s = select(&t2rot, &v);
+    let roots = roots::roots();
+    let s = select(&roots, &t2rot, &v);
 
     // enumeration of the selected pulse configuration
     let shape_j = s.shape_j;
     let numbers = shape_numbers::enumerate(shape_j, v[shape_j]);
     let index_joint_j = frame_fields::joint_index(shape_j, s.gind, numbers);
 
-    // synthesis of the quantized scale factors
-    let d_columns = sns_tables::by_columns::d_by_columns();
-    let sns_xq_shape_j = s.sns_xq_shape_j;
-    let scfq = synthesis::synthesise(&d_columns, st1, &sns_xq_shape_j, s.g_gain_i_shape_j);
+    // synthesis of the quantized scale factors, by the decoder's functions
+    let sns_y_shape_j = v[shape_j];
+    let g = synthesis::scale(&roots, s.g_gain_i_shape_j, &sns_y_shape_j);
+    let scfq = synthesis::from_codes(st1, &sns_y_shape_j, g);
     SnsStage2Result {
         shape_j: s.shape_j,
         gind: s.gind,

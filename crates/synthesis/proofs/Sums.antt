@@ -5,19 +5,15 @@ use Prim.Native.Nat.{ℕ, _+_, _-_, _<_}
 use native.Mathlib.Numerals.{add-one}
 use native.Mathlib.Omega.{arith}
 use borrow.Author.Tests.{lt-ltb, le-ltb}
-use lib.IntN.{ℤ}
 use lib.ListN.{getD, set}
 use lib.Ieee.{Float, nan, binary32, ofBits, add, mul}
-use Rattle.list_laws.specs.ListOf.{listOf}
-use Rattle.list_laws.proofs.ListOf.{getD-listOf, same-listOf}
 use Rattle.list_laws.proofs.Range.{Holds, holds-above, holds-below, holds-up}
 use Rattle.sns_tables.specs.Codebooks.{lfcbRows, hfcbRows, codeAt}
 use Rattle.sns_tables.specs.Rotation.{dColumns}
 use Rattle.sns_tables.proofs.Rotation.{column-entry}
 use Rattle.float_laws.specs.Running.{sumTo}
 use Rattle.sns_tables.specs.Codes.{codeOf}
-use Rattle.pulse_length.specs.Length.{floatsOf}
-use Rattle.synthesis.specs.Synthesis.{scaleOf, columnsTo, synthesised, factorOf, factorsOf}
+use Rattle.synthesis.specs.Synthesis.{columnsTo}
 
 -- the sum over columns
 pub columns-none : (x : List Float) (n : ℕ) → ofBits binary32 0 ≡ columnsTo x n 0
@@ -50,9 +46,3 @@ codes-more low high n l h ys p q b w =
 
     high-is : codeAt h high n ≡ codeOf low high (n + 8)
     high-is = rw (q, le-ltb (n + 8) 8 (omega arith), back)
-
--- the factors, of lent codes, floats and scale
-pub factors-are : (low high shape gain : ℕ) (y : List ℤ) (code x : List Float) (g : Float) → code ≡ listOf 16 (codeOf low high) → x ≡ floatsOf y → g ≡ scaleOf shape gain y
-    → listOf 16 (synthesised (λ n. getD code n nan) x g) ≡ factorsOf low high shape gain y
-factors-are low high shape gain y code x g p q r =
-    same-listOf 16 (synthesised (λ n. getD code n nan) x g) (factorOf low high shape gain y) (λ n h. rw (p, q, r, getD-listOf 16 (codeOf low high) nan n h))

@@ -18,6 +18,7 @@ use Rattle.float_laws.proofs.Size.{within-test, within-up, mul-within, add-with
 use Rattle.float_laws.proofs.Divide.{div-within}
 use Rattle.float_laws.proofs.Whole.{int-within}
 use Rattle.list_laws.specs.Every.{every, everyBelow, everyFrom, gridFrom}
+use Rattle.list_laws.proofs.ListOf.{getD-listOf}
 use Rattle.list_laws.proofs.Every.{at, at-below, at-place, at-grid}
 use Rattle.sns_tables.specs.Codebooks.{lfcbRows, hfcbRows, codeAt}
 use Rattle.sns_tables.specs.Rotation.{dAt}
@@ -29,9 +30,9 @@ use Rattle.numbering.proofs.Counts.{pulses-append, pulses-next}
 use Rattle.roots.proofs.Unit.{root-at-least}
 use Rattle.shape_numbers.specs.Pulses.{restPulses}
 use Rattle.float_laws.specs.Running.{sumTo}
-use Rattle.sns_tables.specs.Codes.{codeOf}
+use Rattle.sns_tables.specs.Codes.{codeOf, codesOf}
 use Rattle.pulse_length.specs.Length.{Sixteen, squaredLength, lengthOf, floatsOf}
-use Rattle.synthesis.specs.Synthesis.{Synthesisable, scaleOf, columnsTo, factorOf}
+use Rattle.synthesis.specs.Synthesis.{Synthesisable, scaleOf, columnsTo, factorOf, factorsOf}
 use Rattle.synthesis.specs.Claims.{FactorsWithin11}
 use Rattle.pulse_length.proofs.Squares.{pulses-under, shape-pulses, shaped-sixteen}
 use Rattle.pulse_length.proofs.FloatLaws.{float-at}
@@ -117,20 +118,20 @@ module _ (low high shape gain : ℕ) (y : List ℤ) (h : Synthesisable low high 
   -- k pulses, a gain of at most top / 4096 and a root of at least b: the gain over the root is at most q / 1024
   module _ (k top b q : ℕ) (e : pulsesOf y ≡ k) (g : Within (gainAt shape gain) top 4096) where
     scaled : 0 < b → k ≤ 11 → b * b ≤ k → T (exact binary32 q 1024) → top * 1 * 1024 ≤ q * (4096 * b) → q * (361 * k) * 1024 ≤ 6177 * (1024 * 1024)
-        → Within (mul binary32 (scaleOf shape gain y) (columnsTo (floatsOf y) n 16)) 6177 1024
+        → Within (mul binary32 (scaleOf (gainAt shape gain) y) (columnsTo (floatsOf y) n 16)) 6177 1024
     unfolding round
     scaled B few r x d m =
-        mul-within binary32 (scaleOf shape gain y) (columnsTo (floatsOf y) n 16) q 1024 (361 * k) 1024 6177 1024 (lit< tt) (lit< tt) (lit< tt) tt m
+        mul-within binary32 (scaleOf (gainAt shape gain) y) (columnsTo (floatsOf y) n 16) q 1024 (361 * k) 1024 6177 1024 (lit< tt) (lit< tt) (lit< tt) tt m
         (div-within binary32 top 4096 b 1 q 1024 (lit< tt) B (lit< tt) (lit< tt) x d (gainAt shape gain) (lengthOf y) g
         (root-at-least (squaredLength y) b (sixteen .above) (sixteen .below) (le-trans r (subst (λ (j : ℕ). j ≤ squaredLength y) e (pulses-under y)))))
         (subst (λ (j : ℕ). Within (columnsTo (floatsOf y) n 16) (361 * j) 1024) e (sum-within y sixteen (subst (λ (j : ℕ). j ≤ 11) (sym e) few) n l))
 
-  product-within : Within (mul binary32 (scaleOf shape gain y) (columnsTo (floatsOf y) n 16)) 6177 1024
+  product-within : Within (mul binary32 (scaleOf (gainAt shape gain) y) (columnsTo (floatsOf y) n 16)) 6177 1024
   unfolding round topGain
   product-within = at-shape shape (shape-pulses shape y (h .shaped)) (gain-top shape gain (h .tables .shape-below) (h .tables .gain-below)) (h .tables .shape-below)
     where
       at-shape : (s : ℕ) → pulsesOf y ≡ setA s .pulses + restPulses s → Within (gainAt shape gain) (topGain s) 4096 → s < 4
-          → Within (mul binary32 (scaleOf shape gain y) (columnsTo (floatsOf y) n 16)) 6177 1024
+          → Within (mul binary32 (scaleOf (gainAt shape gain) y) (columnsTo (floatsOf y) n 16)) 6177 1024
       at-shape zero p g b = scaled 11 12054 3 1005 p g (lit< tt) (lit≤ tt) (lit≤ tt) tt (lit≤ tt) (lit≤ tt)
       at-shape (suc zero) p g b = scaled 10 21014 3 1752 p g (lit< tt) (lit≤ tt) (lit≤ tt) tt (lit≤ tt) (lit≤ tt)
       at-shape (suc (suc zero)) p g b = scaled 8 14808 2 1851 p g (lit< tt) (lit≤ tt) (lit≤ tt) tt (lit≤ tt) (lit≤ tt)
@@ -138,12 +139,15 @@ module _ (low high shape gain : ℕ) (y : List ℤ) (h : Synthesisable low high 
       at-shape (suc (suc (suc (suc s)))) p g b = absurd (omega arith)
 
   -- the code, and the product
-  factor-within : Within (factorOf low high shape gain y n) 11 1
+  factor-within : Within (getD (factorsOf low high shape gain y) n nan) 11 1
   unfolding round
   factor-within =
-      within-up (factorOf low high shape gain y n) 11137 1024 11 1 (lit< tt) (lit≤ tt)
-      (add-within binary32 11137 1024 (lit< tt) tt (codeOf low high n) (mul binary32 (scaleOf shape gain y) (columnsTo (floatsOf y) n 16)) 4960 6177 (lit≤ tt)
-      (code-within low high n (h .tables .low-row) (h .tables .high-row) l) product-within)
+      let code = codesOf low high in
+      let x = factorOf code y (scaleOf (gainAt shape gain) y) n in
+      subst (λ (x : Float). Within x 11 1) (sym (getD-listOf 16 (factorOf code y (scaleOf (gainAt shape gain) y)) nan n l))
+      (within-up x 11137 1024 11 1 (lit< tt) (lit≤ tt)
+      (add-within binary32 11137 1024 (lit< tt) tt (getD code n nan) (mul binary32 (scaleOf (gainAt shape gain) y) (columnsTo (floatsOf y) n 16)) 4960 6177 (lit≤ tt)
+      (subst (λ (x : Float). Within x 4960 1024) (sym (getD-listOf 16 (codeOf low high) nan n l)) (code-within low high n (h .tables .low-row) (h .tables .high-row) l)) product-within))
 
 pub factors-within-11 : FactorsWithin11
 factors-within-11 low high shape gain y h n l = factor-within low high shape gain y h n l

@@ -1,30 +1,28 @@
-// Synthesis: sixteen factors of sixteen codes, a vector turned by D and what it is multiplied by, for both ends; and the
-// decoder's, of two codebook rows, a shape's pulses and a gain. Public for the crates above only: a caller lends the tables and shows the `requires`. Every result is pinned.
+// Synthesis, by the same functions at both ends: sixteen factors of sixteen codes, a shape's pulses and a gain; and the
+// decoder's, whose codes are those of two codebook rows. Public for the crates above only: a caller lends the tables and
+// shows the `requires`. Every result is pinned.
 ghost use mathlib.Core.Path.{_≡_};
-ghost use Prim.Native.Nat.{_<_, _*_};
-ghost use lib.ListN.{getD};
-ghost use lib.Ieee.{nan};
+ghost use Prim.Native.Nat.{_<_};
 ghost use Rattle.list_laws.specs.ListOf.{listOf};
 ghost use Rattle.sns_tables.specs.Codebooks.{lfcbRows, hfcbRows};
 ghost use Rattle.sns_tables.specs.Rotation.{dColumns};
-ghost use Rattle.sns_tables.specs.Gains.{gainsOf};
 ghost use Rattle.roots.specs.Root.{rootTable};
 ghost use Rattle.pulse_length.specs.Length.{Sixteen};
-ghost use Rattle.sns_tables.specs.Codes.{codeOf};
-ghost use Rattle.synthesis.specs.Synthesis.{Synthesisable, scaleOf, columnsTo, synthesised, factorsOf};
+ghost use Rattle.sns_tables.specs.Codes.{codesOf};
+ghost use Rattle.synthesis.specs.Synthesis.{Synthesisable, scaleOf, columnsTo, factorOf, factorsOf};
 
-// The gain divided by the pulses' length.
-fn scale(roots: &[f32; 101], shape: usize, gain: usize, y: &[i32; 16]) -> f32
-    requires { ⌜ (now roots ≡ rootTable) × (shape < 4) × (gain < gainsOf shape) × Sixteen (now y) ⌝ }
-    ensures { λ r. ⌜ r ≡ scaleOf shape gain (now (y .entry)) ⌝ }
+// A gain divided by the pulses' length.
+pub fn scale(roots: &[f32; 101], gain: f32, y: &[i32; 16]) -> f32
+    requires { ⌜ (now roots ≡ rootTable) × Sixteen (now y) ⌝ }
+    ensures { λ r. ⌜ r ≡ scaleOf gain (now (y .entry)) ⌝ }
 {
-    shapes::adj_gain(shape, gain) / pulse_length::length(roots, y)
+    gain / pulse_length::length(roots, y)
 }
 
 // The codes of a low row and a high row, from their lent tables.
-pub fn codes(lfcb: &[[f32; 8]; 32], hfcb: &[[f32; 8]; 32], low: usize, high: usize) -> [f32; 16]
+fn codes(lfcb: &[[f32; 8]; 32], hfcb: &[[f32; 8]; 32], low: usize, high: usize) -> [f32; 16]
     requires { ⌜ (now lfcb ≡ lfcbRows) × (now hfcb ≡ hfcbRows) × (low < 32) × (high < 32) ⌝ }
-    ensures { λ r. ⌜ r ≡ listOf 16 (codeOf low high) ⌝ }
+    ensures { λ r. ⌜ r ≡ codesOf low high ⌝ }
 {
     let mut code = [0.0f32; 16];
     let mut n = 0usize;
@@ -50,25 +48,27 @@ fn column_sum(d: &[[f32; 16]; 16], x: &[f32; 16], n: usize) -> f32
     factor
 }
 
-// Sixteen factors of sixteen codes, a vector x and what it is multiplied by.
-pub fn synthesise(d: &[[f32; 16]; 16], code: &[f32; 16], x: &[f32; 16], g: f32) -> [f32; 16]
-    requires { ⌜ now d ≡ dColumns ⌝ }
-    ensures { λ r. ⌜ r ≡ listOf 16 (synthesised (λ n. getD (now (code .entry)) n nan) (now (x .entry)) g) ⌝ }
+// The sixteen factors of sixteen codes, sixteen pulses and their scale: what both ends synthesise by. D is not lent:
+// here its entries become constants, and no call stores it.
+pub fn from_codes(code: &[f32; 16], y: &[i32; 16], scale: f32) -> [f32; 16]
+    requires { ⌜ Sixteen (now y) ⌝ }
+    ensures { λ r. ⌜ r ≡ listOf 16 (factorOf (now (code .entry)) (now (y .entry)) scale) ⌝ }
 {
+    let d = sns_tables::by_columns::d_by_columns();
+    let x = pulse_length::floats(y);
     let mut factors = [0.0f32; 16];
     let mut n = 0usize;
     while n < 16 {
-        factors[n] = code[n] + g * column_sum(d, x, n);
+        factors[n] = code[n] + scale * column_sum(&d, &x, n);
         n += 1;
     }
     factors
 }
 
-// The sixteen factors of sixteen pulses.
+// The sixteen factors of two codebook rows, a shape's pulses and one of its gains.
 pub fn factors(
     lfcb: &[[f32; 8]; 32],
     hfcb: &[[f32; 8]; 32],
-    d: &[[f32; 16]; 16],
     roots: &[f32; 101],
     low: usize,
     high: usize,
@@ -76,12 +76,11 @@ pub fn factors(
     gain: usize,
     y: &[i32; 16],
 ) -> [f32; 16]
-    requires { ⌜ (now lfcb ≡ lfcbRows) × (now hfcb ≡ hfcbRows) × (now d ≡ dColumns) × (now roots ≡ rootTable) ⌝ }
+    requires { ⌜ (now lfcb ≡ lfcbRows) × (now hfcb ≡ hfcbRows) × (now roots ≡ rootTable) ⌝ }
     requires { ⌜ Synthesisable low high shape gain (now y) ⌝ }
     ensures { λ r. ⌜ r ≡ factorsOf low high shape gain (now (y .entry)) ⌝ }
 {
     let code = codes(lfcb, hfcb, low, high);
-    let x = pulse_length::floats(y);
-    let g = scale(roots, shape, gain, y);
-    synthesise(d, &code, &x, g)
+    let g = scale(roots, shapes::adj_gain(shape, gain), y);
+    from_codes(&code, y, g)
 }

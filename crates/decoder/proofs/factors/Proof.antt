@@ -14,9 +14,6 @@ lfcb-requires c κs = search needs
 hfcb-requires : tie.Need-hfcb-requires
 hfcb-requires c κs = search needs
 
-d-by-columns-requires : tie.Need-d-by-columns-requires
-d-by-columns-requires c κs = search needs
-
 roots-requires : tie.Need-roots-requires
 roots-requires c κs = search needs
 
@@ -34,19 +31,18 @@ cast-factors-4 c = search needs
 
 factors-requires : tie.Need-factors-requires
 factors-requires c κs =
-    let r = c .before .before .before .before .before .before .before .before .before in
-    let d = r .before in
-    let y = d .before .before .before in (
-      (d .before .before .lfcb .ensures, d .before .hfcb .ensures, d .d-by-columns .ensures, r .roots .ensures),
+    let r = c .before .before .before .before .before .before .before .before in
+    let y = r .before .before .before in (
+      (r .before .before .lfcb .ensures, r .before .hfcb .ensures, r .roots .ensures),
       rw (y .pulses .ensures) (synthesisable _ (y .before .pre)),
     )
 
 returns : tie.Need-returns
 returns c =
-    let y = c .before .before .before .before .before .before .before .before .before .before .before .before .before .before in
+    let y = c .before .before .before .before .before .before .before .before .before .before .before .before in
     c .factors .ensures ∙ rw (y .pulses .ensures)
 
 pub factors-spec : {M : Type 1} → statement M
 factors-spec =
     tie.close
-    (tie.spec pulses-requires lfcb-requires hfcb-requires d-by-columns-requires roots-requires cast-factors cast-factors-2 cast-factors-3 cast-factors-4 factors-requires returns)
+    (tie.spec pulses-requires lfcb-requires hfcb-requires roots-requires cast-factors cast-factors-2 cast-factors-3 cast-factors-4 factors-requires returns)

@@ -6,7 +6,7 @@ use native.Mathlib.Omega.{arith}
 use borrow.Author.Needs.{needs}
 use lib.Ieee.{Float}
 use Rattle.candidates.specs.Scan.{choices, winnerOf}
-use Rattle.candidates.proofs.Choices.{choices-are, choice-shape, winner-under}
+use Rattle.candidates.proofs.Choices.{choices-are, winner-under}
 use Rattle.stage2.proofs.Steps.{four-rows, candidates-are, selected-is}
 use Rattle.stage2.proofs.select.Statement.{statement}
 use Rattle.stage2.proofs.select.Tie as tie
@@ -16,7 +16,7 @@ in-scan : (t : List Float) (q : List (List Float)) (i : ℕ) → i ≡ winnerOf 
 in-scan t q i e = rw e (winner-under t q)
 
 normalize-candidates-requires : tie.Need-normalize-candidates-requires
-normalize-candidates-requires c κs = four-rows _ _ (c .pre)
+normalize-candidates-requires c κs = (c .pre .0, four-rows _ _ (c .pre .1))
 
 scanned-gains-requires : tie.Need-scanned-gains-requires
 scanned-gains-requires c κs = search needs
@@ -33,17 +33,11 @@ mul-t12 c = record { fits = omega (arith, in-scan _ _ _ (c .before .winner .ensu
 array-read-t15 : tie.Need-array-read-t15
 array-read-t15 c = omega (arith, in-scan _ _ _ (c .before .winner .ensures), choices-are)
 
-mul-t16 : tie.Need-mul-t16
-mul-t16 c = let h : c .choice-at .result .shape < 4 = rw (c .choice-at .ensures) (choice-shape _ (in-scan _ _ _ (c .before .winner .ensures))) in record { fits = omega arith }
-
-array-copy-out-t19 : tie.Need-array-copy-out-t19
-array-copy-out-t19 c = rw (c .choice-at .ensures) (choice-shape _ (in-scan _ _ _ (c .before .winner .ensures)))
-
 returns : tie.Need-returns
 returns c =
-    let w = c .before .before in
+    let w = c .before in
     let g = w .before .before .before in
-    selected-is _ _ _ _ _ (candidates-are _ _ _ (g .before .before .pre) (g .before .normalize-candidates .ensures)) (g .scanned-gains .ensures) (w .winner .ensures) (c .before .choice-at .ensures)
+    selected-is _ _ _ _ _ (candidates-are _ _ _ (g .before .before .pre .1) (g .before .normalize-candidates .ensures)) (g .scanned-gains .ensures) (w .winner .ensures) (c .choice-at .ensures)
 
 pub select-spec : {M : Type 1} → statement M
 select-spec =
@@ -55,6 +49,4 @@ select-spec =
     choice-at-requires
     mul-t12
     array-read-t15
-    mul-t16
-    array-copy-out-t19
     returns)

@@ -8,6 +8,7 @@ use lib.Ieee.{Float}
 use Rattle.list_laws.specs.ListOf.{listOf}
 use Rattle.shape_search.specs.Shape.{shapePulses}
 use Rattle.stage2_target.proofs.Claims.{absolutes-own}
+use Rattle.pulse_length.proofs.Squares.{shaped-sixteen}
 use Rattle.stage2.proofs.Steps.{shape-room, numbers-room, joint-room, result-is, stage2-is}
 use Rattle.stage2.proofs.sns_quant_stage2.Statement.{statement}
 use Rattle.stage2.proofs.sns_quant_stage2.Tie as tie
@@ -29,6 +30,9 @@ add-signs-requires c κs =
     let y = c .before .before in
     y .search-shapes .ensures ∙ ap (λ (a : List Float). listOf 4 (shapePulses a)) (y .before .before .absolutes .ensures)
 
+roots-requires : tie.Need-roots-requires
+roots-requires c κs = search needs
+
 select-requires : tie.Need-select-requires
 select-requires c κs = search needs
 
@@ -41,27 +45,40 @@ array-copy-out-enumerate c = shape-room _ _ (c .select .ensures)
 enumerate-requires : tie.Need-enumerate-requires
 enumerate-requires c κs =
     let s = c .before in
-    (shape-room _ _ (s .select .ensures), numbers-room _ _ (s .select .ensures) _ (s .before .before .before .add-signs .ensures))
+    (shape-room _ _ (s .select .ensures), numbers-room _ _ (s .select .ensures) _ (s .before .before .before .before .before .add-signs .ensures))
 
 joint-index-requires : tie.Need-joint-index-requires
 joint-index-requires c κs =
     let s = c .before .before in
-    (shape-room _ _ (s .select .ensures), joint-room _ _ (s .select .ensures) _ (s .before .before .before .add-signs .ensures) _ (c .enumerate .ensures))
+    (shape-room _ _ (s .select .ensures), joint-room _ _ (s .select .ensures) _ (s .before .before .before .before .before .add-signs .ensures) _ (c .enumerate .ensures))
 
-d-by-columns-requires : tie.Need-d-by-columns-requires
-d-by-columns-requires c κs = search needs
+mul-sns-y-shape-j : tie.Need-mul-sns-y-shape-j
+mul-sns-y-shape-j c = record { fits = omega (arith, shape-room _ _ (c .before .before .before .select .ensures)) }
 
-synthesise-requires : tie.Need-synthesise-requires
-synthesise-requires c κs = search needs
+array-copy-out-sns-y-shape-j : tie.Need-array-copy-out-sns-y-shape-j
+array-copy-out-sns-y-shape-j c = shape-room _ _ (c .before .before .before .select .ensures)
+
+scale-requires : tie.Need-scale-requires
+scale-requires c κs =
+    let s = c .before .before .before .before .before .before in
+    let r = s .before .before .before .before in
+    (r .roots .ensures, shaped-sixteen _ _ (numbers-room _ _ (s .select .ensures) _ (r .before .add-signs .ensures)))
+
+from-codes-requires : tie.Need-from-codes-requires
+from-codes-requires c κs =
+    let s = c .before .before .before .before .before .before .before .before in
+    let r = s .before .before .before .before in
+    shaped-sixteen _ _ (numbers-room _ _ (s .select .ensures) _ (r .before .add-signs .ensures))
 
 returns : tie.Need-returns
 returns c =
-    let j = c .before .before .before .before .before in
+    let g = c .before .before in
+    let j = g .before .before .before .before in
     let s = j .before .before .before in
-    let v = s .before .before .before in
+    let v = s .before .before .before .before .before in
     let t = v .before .before .before .before .before .before .before in
     stage2-is _ _ _ _ (t .rotate .ensures)
-    (result-is _ _ (s .select .ensures) _ (v .add-signs .ensures) _ (j .before .enumerate .ensures) _ _ _ (j .joint-index .ensures) (c .synthesise .ensures))
+    (result-is _ _ (s .select .ensures) _ (v .add-signs .ensures) _ (j .before .enumerate .ensures) _ _ _ _ (j .joint-index .ensures) (g .scale .ensures) (c .from-codes .ensures))
 
 pub sns-quant-stage2-spec : {M : Type 1} → statement M
 sns-quant-stage2-spec =
@@ -72,11 +89,14 @@ sns-quant-stage2-spec =
     absolutes-requires
     search-shapes-requires
     add-signs-requires
+    roots-requires
     select-requires
     mul-enumerate
     array-copy-out-enumerate
     enumerate-requires
     joint-index-requires
-    d-by-columns-requires
-    synthesise-requires
+    mul-sns-y-shape-j
+    array-copy-out-sns-y-shape-j
+    scale-requires
+    from-codes-requires
     returns)
