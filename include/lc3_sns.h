@@ -62,7 +62,8 @@ typedef struct { uint32_t number; float value; } lc3_sns_checked;
 lc3_sns_checked lc3_sns_check_factor(float x);
 
 /*
- * Quantizes sixteen factors, and fills sixteen synthesised factors.
+ * Quantizes sixteen factors, and fills sixteen synthesised factors: bit for bit those that lc3_sns_decode makes of the answer's fields,
+ * each within plus or minus 11.
  *   factors, out   16 elements each
  * Refusals: 9, 7, 8.
  */

@@ -33,7 +33,8 @@ int main(void) {
     e = lc3_sns_encode(scf, 16, out, 16);
     say("zeros are quantized", e.number == 0 && e.shape < 4 && e.low_row < 32 && e.high_row < 32);
     say("and the decoder takes the fields",
-        code_is(lc3_sns_decode(e.low_row, e.high_row, e.shape, e.gain, e.sign_a, e.sign_b, e.index_a, e.index_b, out, 16), 0, 0));
+        code_is(lc3_sns_decode(e.low_row, e.high_row, e.shape, e.gain, e.sign_a, e.sign_b, e.index_a, e.index_b, held, 16), 0, 0));
+    say("and makes of them the encoder's factors, bit for bit", memcmp(out, held, sizeof out) == 0);
 
     int32_t vector[16], kept[16];
     for (int i = 0; i < 16; i++) vector[i] = kept[i] = 77;

@@ -10,7 +10,7 @@ mod reference;
 
 use inputs::Factors;
 use lc3::decoder::side_info::SnsVq;
-use reference::{run_quant, run_quant_order_3, run_quant_patched, run_quant_place_10, Quantized};
+use reference::{run_quant, run_quant_order_3, run_quant_order_5, run_quant_patched, run_quant_place_10, Quantized};
 use std::fs::{create_dir_all, write};
 
 struct Frame {
@@ -107,10 +107,16 @@ fn told(frames: &[Frame]) {
     };
     let own = |rule: Rule| frames.iter().filter(|f| written(&rule(&f.targets), f)).count();
     let changed = |before: Rule, after: Rule| frames.iter().filter(|f| before(&f.targets) != after(&f.targets)).count();
-    let (rust, order_3, order_5): (Rule, Rule, Rule) = (run_quant, run_quant_order_3, run_quant_place_10);
+    let (rust, order_3, order_5, order_9): (Rule, Rule, Rule, Rule) = (run_quant, run_quant_order_3, run_quant_order_5, run_quant_place_10);
     println!("{} frames: {} answers of the Rust as it is are the codec's own fields", frames.len(), own(rust));
     println!("order 3: {} answers change, {} are the codec's own fields", changed(rust, order_3), own(order_3));
     println!("order 5: {} answers change, {} are the codec's own fields", changed(order_3, order_5), own(order_5));
+    let pairs: Vec<(Quantized, Quantized)> = frames.iter().map(|f| (order_5(&f.targets), order_9(&f.targets))).collect();
+    let differ = |by: fn(&Quantized, &Quantized) -> bool| pairs.iter().filter(|(before, after)| by(before, after)).count();
+    let fields = differ(|before, after| before.numbers != after.numbers);
+    let factors = differ(|before, after| before.factors.map(bits) != after.factors.map(bits));
+    let printed = differ(|before, after| before.factors.map(decimal) != after.factors.map(decimal));
+    println!("order 9: a field changes in {fields} frames, a factor's bits in {factors}, a printed factor in {printed}");
 }
 
 /// The decoder on each frame's own fields: the sum of the bits of all band values, modulo 2^32.

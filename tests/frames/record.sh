@@ -8,7 +8,7 @@ tests/rust/build.sh >/dev/null
 program=target/rust/frames-expect
 flags='--edition 2021 -C opt-level=3 -A warnings -L target/rust'
 # shellcheck disable=SC2086
-rustc $flags --extern lc3 --extern lc3_order_3 --extern lc3_patched --extern lc3_place_10 --extern lc3_later -o "$program" tests/frames/expect.rs
+rustc $flags --extern lc3 $(cat target/rust/copies) -o "$program" tests/frames/expect.rs
 [ "${1:-}" = --check ] || exec "$program" crates
 made=target/rust/frames
 rm -rf "$made"

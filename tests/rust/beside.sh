@@ -14,7 +14,7 @@ fi
 tests/rust/build.sh
 bench/native.sh "$crate" "target/rust/lib$crate.a"
 flags='--edition 2021 -C opt-level=3 -L target/rust'
-copies='--extern lc3 --extern lc3_order_3 --extern lc3_patched --extern lc3_place_10 --extern lc3_later'
+copies="--extern lc3 $(cat target/rust/copies)"
 # shellcheck disable=SC2086
 rustc $flags --crate-type rlib --crate-name lc3_sns --out-dir target/rust bindings/rust/src/lib.rs
 if [ -n "${BEFORE:-}" ]; then

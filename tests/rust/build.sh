@@ -1,12 +1,14 @@
 #!/bin/sh
 # Builds the Rust, lc3-codec 0.2.0, in target/rust, for the comparison and for timing:
 #   liblc3.rlib           as it is
-#   liblc3_order_3.rlib   with the patch of order 3: it shows what each order changes
-#   liblc3_patched.rlib   with the patches of all orders, 3 and 5: what the encoder is compared with
+#   liblc3_order_3.rlib   with the patch of order 3, and
+#   liblc3_order_5.rlib   with those of orders 3 and 5: they show what each order changes
+#   liblc3_patched.rlib   with the patches of all orders, 3, 5 and 9: what the encoder is compared with
 #   liblc3_place_10.rlib  with patches/place_10.patch besides: set B's pulse starts where document 01 has it (docs/DIFFERENCES.md)
 #   liblc3_later.rlib     with the orders' and patches/later_of_a_tie.patch: it shows which inputs have two best candidates
 # No file of it is kept here: they are copied from LC3_SRC (a path seen from the repository's root). In every copy the word `pub`
 # stands before the private functions and structs that must be reached. What it takes from other crates stands in stand_ins/.
+# target/rust/copies has the flags of rustc by which a driver names the copies.
 # Everything is compiled with the same flags: -C opt-level=3 and no target-cpu.
 set -eu
 cd "$(dirname "$0")/../.."
@@ -41,7 +43,8 @@ patched() {
     done
 }
 patched src order_3 $patches/order_3.patch
-patched order_3 patched $patches/order_5.patch
+patched order_3 order_5 $patches/order_5.patch
+patched order_5 patched $patches/order_9.patch
 patched patched place_10 $patches/place_10.patch
 patched patched later $patches/later_of_a_tie.patch
 
@@ -54,8 +57,9 @@ externs='--extern itertools --extern num_traits --extern fast_math'
 # shellcheck disable=SC2086
 {
     rustc $flags $externs --crate-name lc3 "$out/src/lib.rs"
-    for copy in order_3 patched place_10 later; do
+    for copy in order_3 order_5 patched place_10 later; do
         rustc $flags $externs --crate-name lc3_$copy "$out/$copy/lib.rs"
-    done
+        echo "--extern lc3_$copy"
+    done >"$out/copies"
 }
 echo "the Rust: $out/liblc3.rlib, and liblc3_patched.rlib with the patches of the orders"

@@ -36,7 +36,7 @@ pub mod stage1 {
 /// The encoder: refusal, place, rows, shape, gain, signs, joint index, plain indices; the sixteen factors.
 pub mod quant {
     use super::*;
-    use crate::reference::{run_quant, run_quant_order_3, run_quant_patched, run_quant_place_10, Quantized};
+    use crate::reference::{run_quant, run_quant_order_3, run_quant_order_5, run_quant_patched, run_quant_place_10, Quantized};
 
     pub fn ours(f: &Factors) -> Bits {
         let mut factors = [f32::NAN; 16];
@@ -54,12 +54,17 @@ pub mod quant {
         taken(run_quant(f))
     }
 
-    /// The Rust with the patch of order 3 alone.
+    /// With the patch of order 3 alone.
     pub fn order_3(f: &Factors) -> Bits {
         taken(run_quant_order_3(f))
     }
 
-    /// The Rust with the patches of all orders.
+    /// With those of orders 3 and 5.
+    pub fn order_5(f: &Factors) -> Bits {
+        taken(run_quant_order_5(f))
+    }
+
+    /// With those of all orders.
     pub fn patched(f: &Factors) -> Bits {
         taken(run_quant_patched(f))
     }
@@ -67,6 +72,44 @@ pub mod quant {
     /// And with set B's pulse starting at place 10.
     pub fn place_10(f: &Factors) -> Bits {
         taken(run_quant_place_10(f))
+    }
+}
+
+/// The two ends: the sixteen factors that encode leaves, and those that decode makes of its answer.
+pub mod ends {
+    use super::*;
+    use crate::reference::{bands, run_quant_order_5, run_quant_patched};
+    use lc3_sns::{raw, Fields};
+
+    pub fn encoded(f: &Factors) -> Bits {
+        let mut factors = [f32::NAN; 16];
+        raw::encode(f, &mut factors);
+        bits(&[], &factors)
+    }
+
+    pub fn decoded(f: &Factors) -> Bits {
+        let e = raw::encode(f, &mut [f32::NAN; 16]);
+        let (low_row, high_row, shape, gain) = (e.low_row, e.high_row, e.shape, e.gain);
+        let (sign_a, sign_b, index_a, index_b) = (e.sign_a, e.sign_b, e.index_a, e.index_b);
+        let mut factors = [f32::NAN; 16];
+        raw::decode(&Fields { low_row, high_row, shape, gain, sign_a, sign_b, index_a, index_b }, &mut factors);
+        bits(&[], &factors)
+    }
+
+    /// The Rust's own encoder with the patches of the orders, as 64 bands.
+    pub fn rust_encoded(f: &Factors) -> Bits {
+        bands_64::rust(&run_quant_patched(f).factors)[2..].to_vec()
+    }
+
+    /// The Rust's own decoder, on the answer of that encoder.
+    pub fn rust_decoded(f: &Factors) -> Bits {
+        bits(&[], &bands(4, true, &run_quant_patched(f).fields()))
+    }
+
+    /// Without order 9 the Rust's bands differ between its ends.
+    pub fn differed(f: &Factors) -> bool {
+        let before = run_quant_order_5(f);
+        bands_64::rust(&before.factors)[2..] != bits(&[], &bands(4, true, &before.fields()))
     }
 }
 

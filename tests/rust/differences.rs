@@ -9,7 +9,7 @@ use lc3::decoder::side_info::SnsVq;
 use lc3::encoder::spectral_noise_shaping::SpectralNoiseShaping;
 use lc3::tables::spec_noise_shape_quant_tables::{HFCB, LFCB};
 use lc3_sns::{raw, Fields};
-use reference::{bands, pack, run_quant, run_quant_order_3, run_quant_patched, run_quant_place_10, unpack_into, Quantized};
+use reference::{bands, pack, run_quant, run_quant_order_3, run_quant_order_5, run_quant_patched, run_quant_place_10, unpack_into, Quantized};
 use std::panic::catch_unwind;
 
 /// Prints the row, and answers whether it is as the page says.
@@ -33,6 +33,18 @@ fn carried_pair() -> bool {
     let what = format!("sixteen zeros: shape, gain and index A: the Rust {:?}, here {:?}", seen(&rust), seen(&right));
     let order_5_alone = rust == run_quant_order_3(&x);
     row(&what, order_5_alone && seen(&rust) == [1, 0, 605842] && seen(&right) == [1, 0, 605778] && calls::quant::ours(&x) == calls::quant::patched(&x))
+}
+
+/// 1.0 at place 0: every number is the Rust's, and 13 of the sixteen factors have other last bits. Sixteen zeros, where order 5 changes the
+/// pulses too: 12 of them beside the copy with the patches of orders 3 and 5.
+fn last_bits() -> bool {
+    let differ = |a: &Quantized, b: &Quantized| a.factors.iter().zip(&b.factors).filter(|(x, y)| x.to_bits() != y.to_bits()).count();
+    let (one, zeros) = (std::array::from_fn(|n| if n == 0 { 1.0 } else { 0.0 }), [0.0; 16]);
+    let (rust, right) = (run_quant(&one), run_quant_patched(&one));
+    let beside_orders_3_and_5 = differ(&run_quant_order_5(&zeros), &run_quant_patched(&zeros));
+    let what = format!("1.0 at place 0: the Rust's numbers, and other last bits in {} factors; sixteen zeros: in {beside_orders_3_and_5}", differ(&rust, &right));
+    let as_listed = right.has_other_last_bits(&rust) && differ(&rust, &right) == 13 && beside_orders_3_and_5 == 12;
+    row(&what, as_listed && [one, zeros].iter().all(|x| calls::quant::ours(x) == calls::quant::patched(x)))
 }
 
 fn seen(q: &Quantized) -> [i64; 3] {
@@ -91,6 +103,6 @@ fn zero_residual() -> bool {
 }
 
 fn main() {
-    let listed = last_gain() & carried_pair() & no_high_target() & vectors() & sixty_bands() & bad_input() & zero_residual();
+    let listed = last_gain() & carried_pair() & last_bits() & no_high_target() & vectors() & sixty_bands() & bad_input() & zero_residual();
     std::process::exit(!listed as i32)
 }

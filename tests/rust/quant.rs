@@ -1,17 +1,17 @@
 //! The port's encoder beside `run_quant` of the Rust with the patches of the orders, every field and the sixteen factors; what each
-//! order changes, from patched copy to patched copy, down to the Rust as it is; the first of two best candidates; a corner that is
-//! what its name says; and interpolation to 64 bands.
+//! order changes, from patched copy to patched copy, down to the Rust as it is; the factors of both ends; the first of two best
+//! candidates; a corner that is what its name says; and interpolation to 64 bands.
 mod calls;
 mod inputs;
 mod reference;
 mod report;
 
-use calls::{bands_64, quant};
+use calls::{bands_64, ends, quant};
 use inputs::{corner, Factors, BELOW_ZERO, TIE};
 use lc3::encoder::spectral_noise_shaping::SpectralNoiseShaping;
 use lc3::tables::spec_noise_shape_quant_tables::D;
 use lc3_patched::encoder::spectral_noise_shaping::SpectralNoiseShaping as Patched;
-use reference::{run_quant_later, run_quant_order_3, run_quant_patched};
+use reference::{run_quant_later, run_quant_order_3, run_quant_order_5, run_quant_patched};
 use report::Kind;
 
 /// What the pulses are sought for: stage 1's residual, turned by D.
@@ -54,17 +54,26 @@ fn starts_below_zero() -> usize {
 
 fn main() {
     let high = Kind { name: "with no target from 10 on", holds: no_high_target, instead: Some(quant::place_10) };
-    let handed = Kind {
-        name: "with another shape than 3, before or after",
-        holds: |x| !(run_quant_patched(x).has_first_search() && run_quant_order_3(x).has_first_search()),
+    let formula = Kind {
+        name: "with other last bits alone",
+        holds: |x| run_quant_patched(x).has_other_last_bits(&run_quant_order_5(x)),
         instead: Some(quant::patched),
     };
+    let handed = Kind {
+        name: "with another shape than 3, before or after",
+        holds: |x| !(run_quant_order_5(x).has_first_search() && run_quant_order_3(x).has_first_search()),
+        instead: Some(quant::order_5),
+    };
     let last = Kind { name: "with a last gain", holds: |x| run_quant_order_3(x).has_last_gain(), instead: Some(quant::order_3) };
+    let apart = Kind { name: "whose ends differ without order 9", holds: ends::differed, instead: None };
     let wide = Kind { name: "with a step over 64", holds: |x| x.windows(2).any(|w| (w[1] - w[0]).abs() > 64.0), instead: None };
     report::end(
         report::compare("encoder, the Rust with the orders' patches", quant::ours, quant::patched, &high)
-            + report::compare("order 5, the Rust with and without", quant::patched, quant::order_3, &handed)
+            + report::compare("order 9, the Rust with and without", quant::patched, quant::order_5, &formula)
+            + report::compare("order 5, the Rust with and without", quant::order_5, quant::order_3, &handed)
             + report::compare("order 3, the Rust with and without", quant::order_3, quant::rust, &last)
+            + report::compare("both ends, encode and decode of its answer", ends::encoded, ends::decoded, &apart)
+            + report::compare("both ends of the Rust, with the patches", ends::rust_encoded, ends::rust_decoded, &apart)
             + first_of_two()
             + starts_below_zero()
             + report::compare("interpolation", bands_64::ours, bands_64::rust, &wide),

@@ -36,10 +36,11 @@ macro_rules! encoder {
     };
 }
 
-// the Rust as it is; with the patch of order 3; with those of all orders; with these, set B's pulse starting at place 10; with these, the later
-// of a tie (build.sh)
+// the Rust as it is; with the patch of order 3; with those of orders 3 and 5; with those of all orders; with these, set B's pulse starting at
+// place 10; with these, the later of a tie (build.sh)
 encoder!(run_quant, lc3);
 encoder!(run_quant_order_3, lc3_order_3);
+encoder!(run_quant_order_5, lc3_order_5);
 encoder!(run_quant_patched, lc3_patched);
 encoder!(run_quant_place_10, lc3_place_10);
 encoder!(run_quant_later, lc3_later);
@@ -49,6 +50,23 @@ impl Quantized {
     pub fn has_last_gain(&self) -> bool {
         let [_, _, shape, gain, ..] = self.numbers.map(|n| n as usize);
         gain + 1 == GAINS[shape]
+    }
+
+    /// The numbers are the same, and each factor by less than 2^-19: what order 9 may change.
+    pub fn has_other_last_bits(&self, other: &Quantized) -> bool {
+        self.numbers == other.numbers && self.farthest(other) < 2f32.powi(-19)
+    }
+
+    /// How far a factor is from the other's, the most of the sixteen.
+    pub fn farthest(&self, other: &Quantized) -> f32 {
+        self.factors.iter().zip(&other.factors).fold(0.0, |most, (x, y)| most.max((x - y).abs()))
+    }
+
+    /// The answer as the decoder's fields.
+    pub fn fields(&self) -> SnsVq {
+        let [ind_lf, ind_hf, shape, g_ind, ls_inda, ls_indb, _, idx_a, idx_b] = self.numbers.map(|n| n as usize);
+        let (submode_lsb, submode_msb) = ((shape % 2) as u8, (shape / 2) as u8);
+        SnsVq { ind_lf, ind_hf, ls_inda, ls_indb, idx_a, idx_b, submode_lsb, submode_msb, g_ind }
     }
 
     /// The answer is of shape 3, the first that is searched: no pair was handed on to it.

@@ -58,7 +58,8 @@ pub struct Fields {
     pub index_b: u32,
 }
 
-/// What the encoder answers: the fields, their joint index, and the sixteen synthesised factors.
+/// What the encoder answers: the fields, their joint index, and the sixteen synthesised factors, which are bit for bit those that
+/// [`decode`] makes of the fields.
 #[derive(Clone, Copy, Debug, PartialEq)]
 pub struct Encoded {
     pub fields: Fields,
@@ -97,7 +98,7 @@ pub fn check_factor(x: f32) -> Result<f32, FactorRefusal> {
     }
 }
 
-/// Quantizes sixteen factors. Refusals: 9, 7, 8.
+/// Quantizes sixteen factors, and synthesises sixteen as [`decode`] of the answer does, bit for bit. Refusals: 9, 7, 8.
 pub fn encode(factors: &[f32]) -> Result<Encoded, Refusal> {
     let mut out = [0.0; 16];
     let e = raw::encode(factors, &mut out);

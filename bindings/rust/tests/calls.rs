@@ -217,9 +217,10 @@ fn encode_done() {
     let first = encode(&x).unwrap();
     encode(&[64.0; 16]).unwrap();
     assert_eq!(encode(&x).unwrap(), first);
-    // decoded again the factors are the encoder's, but for the last bits
+    // decoded again the factors are the encoder's, bit for bit, and within 11
     let again = decode(&first.fields).unwrap();
-    assert!(again.iter().zip(&first.factors).all(|(a, b)| (a - b).abs() < 1e-4));
+    assert_eq!(again.map(f32::to_bits), first.factors.map(f32::to_bits));
+    assert!(again.iter().all(|x| x.abs() <= 11.0));
 }
 
 #[test]
