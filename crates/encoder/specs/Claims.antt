@@ -1,4 +1,6 @@
--- What is shown of the quantizer over the sixteen factors, for factors of at most 512 in size. Definitions only; the proofs are in proofs/Claims.
+-- What is shown of the quantizer over the sixteen factors: that its own are the decoder's; and, for factors of at most 512 in size, that nothing is nearer.
+-- Definitions only; the proofs are in proofs/Claims.
+use mathlib.Core.Path.{_≡_}
 use mathlib.Core.Bool.{not}
 use mathlib.Core.List.{List}
 use Prim.Native.Nat.{ℕ, _<_}
@@ -6,12 +8,21 @@ use lib.Dec.{T}
 use lib.Ieee.{Float, isNan}
 use Rattle.float_laws.specs.Bounded.{Bounded}
 use Rattle.float_laws.specs.Least.{FirstLeast}
+use Rattle.shape_numbers.specs.Pulses.{pulsesAt}
+use Rattle.synthesis.specs.Synthesis.{factorsOf}
 use Rattle.stage1.specs.Stage1.{lowDistance, highDistance, lowRow, highRow, residual}
 use Rattle.stage2_target.specs.Target.{targetOf, absolutesOf}
 use Rattle.shape_search.specs.Claims.{ComparesFinite}
 use Rattle.candidates.specs.Scan.{choices, distortionAt}
 use Rattle.stage2.specs.Stage2.{candidatesOf}
 use Rattle.stage2.specs.Claims.{FirstChoice}
+use Rattle.encoder.specs.Quantized.{quantizedOf}
+
+-- the sixteen factors of the answer are those that the decoder's formula has for its rows, shape and gain, and the pulses that its numbers unpack to
+abbrev pub FactorsOfAnswer : Type 0
+FactorsOfAnswer =
+    (x : List Float) → let r = quantizedOf x .stage1 in let s = quantizedOf x .stage2 in
+    s .scfq ≡ factorsOf (r .«ind_lf») (r .«ind_hf») (s .«shape_j») (s .gind) (pulsesAt (s .«shape_j») (s .numbers))
 
 -- no compared value is NaN: the distances of the rows, the products of the three searches (these are finite), the distortions of the choices
 pub record NothingNan (x : List Float) : Type 0 where

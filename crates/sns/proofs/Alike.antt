@@ -1,4 +1,4 @@
--- The claims of specs/Alike.antt: the winner's numbers unpack to its very pulses, and one formula makes the factors. Assumes nothing.
+-- The claims of specs/Alike.antt: the quantizer's, at the calls. Assumes nothing.
 use mathlib.Core.Path.{_≡_, refl, sym, ap, _∙_, subst}
 use mathlib.Core.Bool.{true, not}
 use mathlib.Core.List.{List}
@@ -16,10 +16,9 @@ use Rattle.list_laws.proofs.Every.{both-are, all}
 use Rattle.list_laws.proofs.ListOf.{length-listOf}
 use Rattle.factor.specs.Check.{beyond}
 use Rattle.factor.proofs.Laws.{not-beyond}
-use Rattle.stage1.specs.Stage1.{codes, residual}
 use Rattle.stage2.specs.Stage2.{resultOf, stage2Of}
-use Rattle.stage2.proofs.Claims.{factors-again}
 use Rattle.encoder.specs.Quantized.{quantizedOf}
+use Rattle.encoder.proofs.Claims.{factors-of-answer}
 use Rattle.frame_fields.specs.Accepted.{Accepted}
 use Rattle.frame_fields.specs.declared.Fields.{Fields}
 use Rattle.decoder.specs.Decoded.{fieldFactors}
@@ -40,8 +39,7 @@ use Rattle.sns.specs.Alike.{BothAlike, EncodedWithin, EncodedBands, Fram
 use Rattle.sns.proofs.EncodeClaims.{decodes-again}
 
 pub both-alike : BothAlike
-unfolding quantizedOf
-both-alike factors = factors-again (residual factors) (codes factors)
+both-alike = factors-of-answer
 
 -- ---- the size of the factors
 module _ (factors : List Float) where

@@ -87,7 +87,7 @@ module _ (t : List Float) (s : Selected) (e : s ≡ selectedOf t) where
   shape-room = rw e (chosen-shape t)
 
   module _ (v : List (List ℤ)) (f : v ≡ listOf 4 (signedFor t)) where
-    row-is : getD v (s .«shape_j») [] ≡ signedFor t (s .«shape_j»)
+    pub row-is : getD v (s .«shape_j») [] ≡ signedFor t (s .«shape_j»)
     row-is = row-at (signedFor t) v f (s .«shape_j») shape-room
 
     pub numbers-room : Shaped (s .«shape_j») (getD v (s .«shape_j») [])
@@ -97,11 +97,12 @@ module _ (t : List Float) (s : Selected) (e : s ≡ selectedOf t) where
       pub joint-room : Indexed (s .«shape_j») n
       joint-room = rw g (numbers-indexed (s .«shape_j») (getD v (s .«shape_j») []) numbers-room)
 
-      pub result-is : (code scfq : List Float) (scale : Float) (j : ℕ) → j ≡ jointIndex (s .«shape_j») (s .gind) n
-          → scale ≡ scaleOf (s .«g_gain_i_shape_j») (getD v (s .«shape_j») []) → scfq ≡ listOf 16 (factorOf code (getD v (s .«shape_j») []) scale)
+      -- y is the row that the factors are made of
+      pub result-is : (code scfq : List Float) (y : List ℤ) (scale : Float) (j : ℕ) → j ≡ jointIndex (s .«shape_j») (s .gind) n
+          → y ≡ signedFor t (s .«shape_j») → scale ≡ scaleOf (s .«g_gain_i_shape_j») y → scfq ≡ listOf 16 (factorOf code y scale)
           → _≡_ {A = SnsStage2Result} (record { «shape_j» = s .«shape_j»; gind = s .gind; numbers = n; «index_joint_j» = j; scfq = scfq }) (resultOf t code)
       unfolding resultOf selectedOf
-      result-is code scfq scale j h k i = rw (h, i, k, g, row-is, e)
+      result-is code scfq y scale j h w k i = rw (h, i, k, w, g, row-is, e)
 
 pub stage2-is : (residual code t : List Float) (r : SnsStage2Result) → t ≡ targetOf residual → r ≡ resultOf t code → r ≡ stage2Of residual code
 unfolding stage2Of

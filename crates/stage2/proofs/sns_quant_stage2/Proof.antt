@@ -8,8 +8,7 @@ use lib.Ieee.{Float}
 use Rattle.list_laws.specs.ListOf.{listOf}
 use Rattle.shape_search.specs.Shape.{shapePulses}
 use Rattle.stage2_target.proofs.Claims.{absolutes-own}
-use Rattle.pulse_length.proofs.Squares.{shaped-sixteen}
-use Rattle.stage2.proofs.Steps.{shape-room, numbers-room, joint-room, result-is, stage2-is}
+use Rattle.stage2.proofs.Steps.{four-rows, shape-room, row-is, numbers-room, joint-room, result-is, stage2-is}
 use Rattle.stage2.proofs.sns_quant_stage2.Statement.{statement}
 use Rattle.stage2.proofs.sns_quant_stage2.Tie as tie
 
@@ -56,19 +55,18 @@ mul-sns-y-shape-j : tie.Need-mul-sns-y-shape-j
 mul-sns-y-shape-j c = record { fits = omega (arith, shape-room _ _ (c .before .before .before .select .ensures)) }
 
 array-copy-out-sns-y-shape-j : tie.Need-array-copy-out-sns-y-shape-j
-array-copy-out-sns-y-shape-j c = shape-room _ _ (c .before .before .before .select .ensures)
+array-copy-out-sns-y-shape-j c = omega (arith, shape-room _ _ (c .before .before .before .select .ensures))
 
 scale-requires : tie.Need-scale-requires
 scale-requires c κs =
     let s = c .before .before .before .before .before .before in
     let r = s .before .before .before .before in
-    (r .roots .ensures, shaped-sixteen _ _ (numbers-room _ _ (s .select .ensures) _ (r .before .add-signs .ensures)))
+    (r .roots .ensures, four-rows _ _ (r .before .add-signs .ensures) _ (omega (arith, shape-room _ _ (s .select .ensures))))
 
 from-codes-requires : tie.Need-from-codes-requires
 from-codes-requires c κs =
     let s = c .before .before .before .before .before .before .before .before in
-    let r = s .before .before .before .before in
-    shaped-sixteen _ _ (numbers-room _ _ (s .select .ensures) _ (r .before .add-signs .ensures))
+    four-rows _ _ (s .before .before .before .before .before .add-signs .ensures) _ (omega (arith, shape-room _ _ (s .select .ensures)))
 
 returns : tie.Need-returns
 returns c =
@@ -78,7 +76,7 @@ returns c =
     let v = s .before .before .before .before .before in
     let t = v .before .before .before .before .before .before .before in
     stage2-is _ _ _ _ (t .rotate .ensures)
-    (result-is _ _ (s .select .ensures) _ (v .add-signs .ensures) _ (j .before .enumerate .ensures) _ _ _ _ (j .joint-index .ensures) (g .scale .ensures) (c .from-codes .ensures))
+    (result-is _ _ (s .select .ensures) _ (v .add-signs .ensures) _ (j .before .enumerate .ensures) _ _ _ _ _ (j .joint-index .ensures) (row-is _ _ (s .select .ensures) _ (v .add-signs .ensures)) (g .scale .ensures) (c .from-codes .ensures))
 
 pub sns-quant-stage2-spec : {M : Type 1} → statement M
 sns-quant-stage2-spec =
