@@ -78,7 +78,7 @@ pub mod quant {
 /// The two ends: the sixteen factors that encode leaves, and those that decode makes of its answer.
 pub mod ends {
     use super::*;
-    use crate::reference::{bands, run_quant_order_5, run_quant_patched};
+    use crate::reference::{bands, run_quant_order_5, run_quant_place_10};
     use lc3_sns::{raw, Fields};
 
     pub fn encoded(f: &Factors) -> Bits {
@@ -96,14 +96,14 @@ pub mod ends {
         bits(&[], &factors)
     }
 
-    /// The Rust's own encoder with the patches of the orders, as 64 bands.
+    /// The Rust's own encoder, with the patches of the orders and set B's start put right, as 64 bands.
     pub fn rust_encoded(f: &Factors) -> Bits {
-        bands_64::rust(&run_quant_patched(f).factors)[2..].to_vec()
+        bands_64::rust(&run_quant_place_10(f).factors)[2..].to_vec()
     }
 
     /// The Rust's own decoder, on the answer of that encoder.
     pub fn rust_decoded(f: &Factors) -> Bits {
-        bits(&[], &bands(4, true, &run_quant_patched(f).fields()))
+        bits(&[], &bands(4, true, &run_quant_place_10(f).fields()))
     }
 
     /// Without order 9 the Rust's bands differ between its ends.

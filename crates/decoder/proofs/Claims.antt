@@ -1,11 +1,8 @@
 -- The claims of specs/Claims.antt: accepted fields are synthesised, and so their factors are within. Assumes nothing.
-use mathlib.Core.Path.{sym, subst}
 use lib.Dec.{lit<, lit≤}
 use lib.ListN.{getD}
-use lib.Ieee.{Float, nan}
-use Rattle.float_laws.specs.Size.{Within}
+use lib.Ieee.{nan}
 use Rattle.float_laws.proofs.Size.{within-up}
-use Rattle.list_laws.proofs.ListOf.{getD-listOf}
 use Rattle.frame_fields.specs.declared.Fields.{Fields}
 use Rattle.frame_fields.specs.Accepted.{Accepted, numbersIn}
 use Rattle.shape_numbers.proofs.Claims.{pulses-shaped}

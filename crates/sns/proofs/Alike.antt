@@ -20,7 +20,6 @@ use Rattle.stage2.specs.Stage2.{resultOf, stage2Of}
 use Rattle.encoder.specs.Quantized.{quantizedOf}
 use Rattle.encoder.proofs.Claims.{factors-of-answer}
 use Rattle.frame_fields.specs.Accepted.{Accepted}
-use Rattle.frame_fields.specs.declared.Fields.{Fields}
 use Rattle.decoder.specs.Decoded.{fieldFactors}
 use Rattle.decoder.proofs.Claims.{within-11}
 use Rattle.interpolation.specs.Bands.{countOk, bandLimit, interpolated}
@@ -35,7 +34,7 @@ use Rattle.sns_interpolate.specs.Interpolate.{interpolateAnswer, InterpolateSay
 use Rattle.sns_interpolate.proofs.Claims.{interpolate-takes}
 use Rattle.sns_shape.specs.Shape.{ShapeSays}
 use Rattle.sns_shape.proofs.Claims.{shape-pinned}
-use Rattle.sns.specs.Alike.{BothAlike, EncodedWithin, EncodedBands, Frame, CallsAlike, Interpolated, BandsAlike, LinesAlike}
+use Rattle.sns.specs.Alike.{BothAlike, EncodedWithin, EncodedBands, CallsAlike, BandsAlike, LinesAlike}
 use Rattle.sns.proofs.EncodeClaims.{decodes-again}
 
 pub both-alike : BothAlike
@@ -70,7 +69,7 @@ encoded-bands factors count c =
       long = refl;
       in-range =
           all nan (λ (x : Float). both (finite x) (not (beyond bandLimit x))) (quantizedOf factors .stage2 .scfq)
-              (λ k h. in-bands (getD (quantizedOf factors .stage2 .scfq) k nan) (within factors k (subst (λ (m : ℕ). k < m) (sixteen factors) h)));
+          (λ k h. in-bands (getD (quantizedOf factors .stage2 .scfq) k nan) (within factors k (subst (λ (m : ℕ). k < m) (sixteen factors) h)));
     })
 
 -- ---- at the calls

@@ -1,6 +1,6 @@
 // Synthesis, by the same functions at both ends: sixteen factors of sixteen codes, a shape's pulses and a gain; and the
-// decoder's, whose codes are those of two codebook rows. Public for the crates above only: a caller lends the tables and
-// shows the `requires`. Every result is pinned.
+// decoder's, whose codes are those of two codebook rows. Public for the crates above only: a caller lends the codebooks and
+// the roots, and shows the `requires`. Every result is pinned.
 ghost use mathlib.Core.Path.{_≡_};
 ghost use Prim.Native.Nat.{_<_};
 ghost use Rattle.list_laws.specs.ListOf.{listOf};

@@ -1,6 +1,5 @@
 -- The four candidates are the list.
 use Prim.Native.Nat.{_-_}
-use borrow.Author.Needs.{needs}
 use lib.Dec.{lit<}
 use Rattle.stage2.proofs.Steps.{four-candidates}
 use Rattle.stage2.proofs.normalize_candidates.Statement.{statement}
