@@ -55,7 +55,7 @@ fn starts_below_zero() -> usize {
 fn main() {
     let high = Kind { name: "with no target from 10 on", holds: no_high_target, instead: Some(quant::place_10) };
     let formula = Kind {
-        name: "with other last bits alone",
+        name: "with the same numbers, factors to 2^-19",
         holds: |x| run_quant_patched(x).has_other_last_bits(&run_quant_order_5(x)),
         instead: Some(quant::patched),
     };

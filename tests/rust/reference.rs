@@ -52,9 +52,9 @@ impl Quantized {
         gain + 1 == GAINS[shape]
     }
 
-    /// The numbers are the same, and no factor is 2^-19 away or more: what order 9 may change.
+    /// The numbers are the same, and no factor is more than 2^-19 away: what order 9 may change.
     pub fn has_other_last_bits(&self, other: &Quantized) -> bool {
-        self.numbers == other.numbers && self.farthest(other) < 2f32.powi(-19)
+        self.numbers == other.numbers && self.farthest(other) <= 2f32.powi(-19)
     }
 
     /// How far a factor is from the other's, the most of the sixteen.
