@@ -1,10 +1,23 @@
 -- The claims of specs/Claims.antt: every field is given by an equation. Assumes nothing.
-use mathlib.Core.Path.{_≡_, sym, _∙_}
+use mathlib.Core.Path.{_≡_, sym, ap, _∙_}
+use mathlib.Core.List.{List}
+use lib.ListN.{length}
+use Rattle.decoder.specs.Decoded.{fieldFactors}
+use Rattle.encoder.specs.Quantized.{quantizedOf}
+use Rattle.encoder.specs.declared.Quantized.{Quantized}
+use Rattle.refusals.specs.declared.Answer.{Answer}
+use Rattle.refusals.specs.declared.Answer.the-variants.{Done}
+use Rattle.refusals.specs.Answers.{numberOf, kept}
+use Rattle.sns_encode.specs.Encode.{fieldsOf, encodedAs}
+use Rattle.sns_decode.specs.Decode.{decodeAnswer}
+use Rattle.sns.proofs.EncodeClaims.{decodes-again}
+use Rattle.sns.proofs.Alike.{both-alike}
+use Rattle.sns_c.specs.Answers.{IsEncoded, CodeSays}
 use Rattle.sns_c.specs.declared.Code.{Code}
 use Rattle.sns_c.specs.declared.EncodedCode.{EncodedCode}
 use Rattle.sns_c.specs.declared.PackedCode.{PackedCode}
 use Rattle.sns_c.specs.declared.CheckedCode.{CheckedCode}
-use Rattle.sns_c.specs.Claims.{CodePinned, EncodedPinned, PackedPinned, CheckedPinned}
+use Rattle.sns_c.specs.Claims.{CodePinned, EncodedPinned, PackedPinned, CheckedPinned, fieldsIn, CodesAlike}
 
 same-code : (r r′ : Code) → r .number ≡ r′ .number → r .place ≡ r′ .place → r ≡ r′
 same-code r r′ a b = rw (← a, ← b)
@@ -39,3 +52,19 @@ packed-pinned a r r′ s s′ =
 
 pub checked-pinned : CheckedPinned
 checked-pinned a r r′ s s′ = same-checked r r′ (s .number ∙ sym (s′ .number)) (s .value ∙ sym (s′ .value))
+
+-- ---- both ends
+-- the fields of an answer that is done
+fields-in : (a : Answer) (q : Quantized) (r : EncodedCode) → a ≡ Done → IsEncoded (encodedAs a q) r → fieldsIn r ≡ fieldsOf q
+fields-in a q r e i = rw (i .low-row, i .high-row, i .shape, i .gain, i .sign-a, i .sign-b, i .index-a, i .index-b, e)
+
+-- a call that is done
+done-code : {A : Type 0} (a : Answer) (filled old : List A) (c : Code) (new : List A) → a ≡ Done → CodeSays a filled old c new → (c .number ≡ 0) × (new ≡ filled)
+done-code a filled old c new e s = (s .code .number ∙ ap numberOf e, s .buffer ∙ ap (λ b. kept b filled old) e)
+
+pub codes-alike : CodesAlike
+codes-alike factors old other r c sent got e s l d =
+    let q = quantizedOf factors in
+    let f = fields-in _ q r e (s .encoded) in
+    let done = done-code (decodeAnswer (fieldsIn r) (length other)) (fieldFactors (fieldsIn r)) other c got (rw (f, l) (decodes-again factors .0)) d in
+    (done .0, s .buffer ∙ ap (λ b. kept b (q .stage2 .scfq) old) e ∙ both-alike factors ∙ sym (ap fieldFactors f) ∙ sym (done .1))
