@@ -28,11 +28,11 @@ scaleOf g y = div binary32 g (lengthOf y)
 unfoldable pub columnsTo : List Float → ℕ → ℕ → Float
 columnsTo x n columns = sumTo (λ column. mul binary32 (getD x column nan) (dAt n column)) columns
 
--- code n + what the gain divided by r is, times the sum over columns of y times D[n][column]
+-- code n + scale times the sum over columns of y times D[n][column]
 abbrev pub factorOf : List Float → List ℤ → Float → ℕ → Float
 factorOf code y scale n = add binary32 (getD code n nan) (mul binary32 scale (columnsTo (floatsOf y) n 16))
 
--- BOTH ENDS shape by these sixteen factors, of sixteen codes, a shape, one of its gains and its pulses
+-- THE FORMULA OF BOTH ENDS: factor n = code n + (g/r) times the sum over columns of y times D[n][column], for sixteen codes
 abbrev pub fromCodes : List Float → ℕ → ℕ → List ℤ → List Float
 fromCodes code shape gain y = listOf 16 (factorOf code y (scaleOf (gainAt shape gain) y))
 
