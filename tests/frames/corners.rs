@@ -2,8 +2,7 @@
 //! of factors the Rust's interpolation; the check of a factor and the reduction to 60 bands are written from document 01,
 //! since the Rust has no function for the one and does the other inside its decoder.
 use crate::inputs::Factors;
-use crate::reference::{bands, limits};
-use lc3::decoder::side_info::SnsVq;
+use crate::reference::{bands, limits, sns_vq};
 use lc3::encoder::spectral_noise_shaping::SpectralNoiseShaping;
 
 fn float(x: f32) -> String {
@@ -30,9 +29,8 @@ fn interpolated(factors: &Factors) -> String {
     line("bands 64", &wide) + &line("bands 60", &narrow)
 }
 
-fn decoded([ind_lf, ind_hf, shape, g_ind, ls_inda, idx_a, ls_indb, idx_b]: [usize; 8]) -> String {
-    let (submode_lsb, submode_msb) = ((shape % 2) as u8, (shape / 2) as u8);
-    let fields = SnsVq { ind_lf, ind_hf, ls_inda, ls_indb, idx_a, idx_b, submode_lsb, submode_msb, g_ind };
+fn decoded([low, high, shape, gain, sign_a, a, sign_b, b]: [usize; 8]) -> String {
+    let fields = sns_vq([low, high, shape, gain, sign_a, sign_b, a, b]);
     line("bands 64", &bands(4, true, &fields)) + &line("bands 60", &bands(0, false, &fields))
 }
 

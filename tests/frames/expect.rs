@@ -9,7 +9,6 @@ mod inputs;
 mod reference;
 
 use inputs::Factors;
-use lc3::decoder::side_info::SnsVq;
 use reference::{run_quant, run_quant_order_3, run_quant_order_5, run_quant_patched, run_quant_place_10, Quantized};
 use std::fs::{create_dir_all, write};
 
@@ -124,17 +123,7 @@ fn decoded(frames: &[Frame]) -> (Vec<u8>, String) {
     let (mut stdin, mut sum) = (Vec::<u8>::new(), 0u32);
     for f in frames {
         let v = &f.fields;
-        let fields = SnsVq {
-            ind_lf: v[0],
-            ind_hf: v[1],
-            ls_inda: v[4],
-            ls_indb: v[5],
-            idx_a: v[6],
-            idx_b: v[7],
-            submode_lsb: (v[2] % 2) as u8,
-            submode_msb: (v[2] / 2) as u8,
-            g_ind: v[3],
-        };
+        let fields = reference::sns_vq(v[..].try_into().expect("eight fields"));
         let bands = reference::bands(f.rate, f.ten_ms, &fields);
         sum = bands.iter().fold(sum, |s, x| s.wrapping_add(x.to_bits()));
         for n in std::iter::once(&bands.len()).chain(v.iter()) {

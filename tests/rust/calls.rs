@@ -79,21 +79,14 @@ pub mod quant {
 pub mod ends {
     use super::*;
     use crate::reference::{bands, run_quant_order_5, run_quant_place_10};
-    use lc3_sns::{raw, Fields};
+    use lc3_sns::{decode, encode};
 
     pub fn encoded(f: &Factors) -> Bits {
-        let mut factors = [f32::NAN; 16];
-        raw::encode(f, &mut factors);
-        bits(&[], &factors)
+        bits(&[], &encode(f).expect("encode takes it").factors)
     }
 
     pub fn decoded(f: &Factors) -> Bits {
-        let e = raw::encode(f, &mut [f32::NAN; 16]);
-        let (low_row, high_row, shape, gain) = (e.low_row, e.high_row, e.shape, e.gain);
-        let (sign_a, sign_b, index_a, index_b) = (e.sign_a, e.sign_b, e.index_a, e.index_b);
-        let mut factors = [f32::NAN; 16];
-        raw::decode(&Fields { low_row, high_row, shape, gain, sign_a, sign_b, index_a, index_b }, &mut factors);
-        bits(&[], &factors)
+        bits(&[], &decode(&encode(f).expect("encode takes it").fields).expect("decode takes it"))
     }
 
     /// The Rust's own encoder, with the patches of the orders and set B's start put right, as 64 bands.

@@ -45,6 +45,12 @@ encoder!(run_quant_patched, lc3_patched);
 encoder!(run_quant_place_10, lc3_place_10);
 encoder!(run_quant_later, lc3_later);
 
+/// Low row, high row, shape, gain, sign A, sign B, index A and index B as the Rust's decoder has them.
+pub fn sns_vq([ind_lf, ind_hf, shape, g_ind, ls_inda, ls_indb, idx_a, idx_b]: [usize; 8]) -> SnsVq {
+    let (submode_lsb, submode_msb) = ((shape % 2) as u8, (shape / 2) as u8);
+    SnsVq { ind_lf, ind_hf, ls_inda, ls_indb, idx_a, idx_b, submode_lsb, submode_msb, g_ind }
+}
+
 impl Quantized {
     /// The answer's gain is the last of its row, which the Rust as it is never tries.
     pub fn has_last_gain(&self) -> bool {
@@ -64,9 +70,8 @@ impl Quantized {
 
     /// The answer as the decoder's fields.
     pub fn fields(&self) -> SnsVq {
-        let [ind_lf, ind_hf, shape, g_ind, ls_inda, ls_indb, _, idx_a, idx_b] = self.numbers.map(|n| n as usize);
-        let (submode_lsb, submode_msb) = ((shape % 2) as u8, (shape / 2) as u8);
-        SnsVq { ind_lf, ind_hf, ls_inda, ls_indb, idx_a, idx_b, submode_lsb, submode_msb, g_ind }
+        let [low, high, shape, gain, sign_a, sign_b, _, a, b] = self.numbers.map(|n| n as usize);
+        sns_vq([low, high, shape, gain, sign_a, sign_b, a, b])
     }
 
     /// The answer is of shape 3, the first that is searched: no pair was handed on to it.

@@ -1,5 +1,5 @@
--- What is shown of the quantizer over the sixteen factors: that its own are the decoder's; and, for factors of at most 512 in size, that nothing is nearer.
--- Definitions only; the proofs are in proofs/Claims.
+-- What is shown of the quantizer over the sixteen factors: that its own are by the decoder's formula; and, for factors of at most 512 in size, that no compared
+-- value is NaN and that the rows and the choice are the first least. Definitions only; the proofs are in proofs/Claims.
 use mathlib.Core.Path.{_≡_}
 use mathlib.Core.Bool.{not}
 use mathlib.Core.List.{List}

@@ -2,15 +2,15 @@
 use mathlib.Core.Path.{_≡_, refl, sym, ap, _∙_, subst}
 use mathlib.Core.Bool.{Bool, true, false, not, cond}
 use mathlib.Core.List.{List, [], _∷_, _++_}
-use Prim.Native.Nat.{ℕ}
+use Prim.Native.Nat.{ℕ, _<_}
 use native.Mathlib.Omega.{arith}
-use lib.Dec.{T}
+use lib.Dec.{T, ltb, ltb→lt}
 use Rattle.list_laws.specs.Every.{both, every}
 use Rattle.list_laws.proofs.Every.{both-left, both-right}
 use Rattle.refusals.specs.declared.Answer.{Answer}
 use Rattle.refusals.specs.declared.Answer.the-variants.{Done, No}
 use Rattle.refusals.specs.Answers.{Question, ask, answerOf, numberOf, placeOf}
-use Rattle.refusals.specs.Claims.{FirstGiven, RefusedExactly, DoneExactly}
+use Rattle.refusals.specs.Claims.{FirstGiven, RefusedExactly, DoneExactly, ZeroDone}
 
 pub none-left : Done ≡ answerOf []
 unfolding answerOf
@@ -135,3 +135,16 @@ done-exactly qs = (there qs, back qs)
     back : (qs : List Question) → answerOf qs ≡ Done → T (every (λ (q : Question). not (q .given)) qs)
     back [] e = tt
     back (q ∷ qs) e = let d = done (q .number) (q .place) (q .given) qs e in more (q .given) _ (d .0) (back qs (d .1))
+
+pub zero-done : ZeroDone
+unfolding answerOf
+zero-done [] t e = refl
+zero-done (q ∷ qs) t e = by (q .given) (zero-done qs (both-right (ltb 0 (q .number)) (every (λ (q : Question). ltb 0 (q .number)) qs) t)) e
+  where
+    above : 0 < q .number
+    above = ltb→lt 0 (q .number) (both-left (ltb 0 (q .number)) (every (λ (q : Question). ltb 0 (q .number)) qs) t)
+
+    by : (b : Bool) → (numberOf (answerOf qs) ≡ 0 → answerOf qs ≡ Done) → numberOf (cond b (No (q .number) (q .place)) (answerOf qs)) ≡ 0
+        → cond b (No (q .number) (q .place)) (answerOf qs) ≡ Done
+    by true rest n = absurd (omega (arith, above, n))
+    by false rest n = rest n

@@ -4,7 +4,7 @@ use mathlib.Core.Bool.{Bool, true, false, not}
 use mathlib.Core.List.{List, [], _∷_}
 use Prim.Native.Nat.{ℕ, suc, _+_, _<_}
 use native.Mathlib.Numerals.{add-one}
-use lib.Dec.{T}
+use lib.Dec.{T, ltb}
 use lib.ListN.{length, getD, drop}
 use lib.Seq.{drop-cons}
 use lib.Ieee.{Float, nan}
@@ -20,7 +20,7 @@ use Rattle.refusals.specs.declared.Answer.{Answer}
 use Rattle.refusals.specs.declared.Answer.the-variants.{Done}
 use Rattle.refusals.specs.declared.Element.{Element}
 use Rattle.refusals.specs.declared.Element.the-variants.{Factor, Value}
-use Rattle.refusals.specs.Answers.{answerOf}
+use Rattle.refusals.specs.Answers.{Question, answerOf}
 use Rattle.refusals.specs.Elements.{elementAsked, elementQuestions}
 use Rattle.refusals.proofs.Answers.{none-left, not-given, done, andThen, appended, first-done, both-done, not-yes}
 
@@ -68,6 +68,13 @@ done-all element place [] e = tt
 done-all element place (x ∷ xs) e =
     let d = both-done (elementAsked element place x) _ e in
     both-are (takenAs element x) (every (takenAs element) xs) (done-one element place x (d .0)) (done-all element (suc place) xs (d .1))
+
+-- ---- the questions of elements have numbers above 0
+pub element-numbers : (element : Element) (place : ℕ) (xs : List Float) → T (every (λ (q : Question). ltb 0 (q .number)) (elementQuestions element place xs))
+unfolding elementQuestions
+element-numbers element place [] = tt
+element-numbers (Factor limit) place (x ∷ xs) = element-numbers (Factor limit) (suc place) xs
+element-numbers Value place (x ∷ xs) = element-numbers Value (suc place) xs
 
 -- ---- each factor of a row that is taken is within the limit
 pub within-limit : (xs : List Float) → answerOf (elementQuestions (Factor factorLimit) 0 xs) ≡ Done → (i : ℕ) → i < length xs → Within (getD xs i nan) 64 1

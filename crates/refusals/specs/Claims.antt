@@ -3,11 +3,11 @@ use mathlib.Core.Path.{_≡_}
 use mathlib.Core.Bool.{true, not}
 use mathlib.Core.List.{List, _∷_, _++_}
 use Prim.Native.Nat.{ℕ}
-use lib.Dec.{T}
+use lib.Dec.{T, ltb}
 use Rattle.list_laws.specs.Every.{every}
 use Rattle.refusals.specs.declared.Answer.{Answer}
 use Rattle.refusals.specs.declared.Answer.the-variants.{Done, No}
-use Rattle.refusals.specs.Answers.{Question, ask, answerOf}
+use Rattle.refusals.specs.Answers.{Question, ask, answerOf, numberOf}
 
 -- a question of this number and place is given, and none before it
 pub record FirstGiven (qs : List Question) (number place : ℕ) : Type 0 where
@@ -25,6 +25,10 @@ abbrev pub DoneExactly : Type 0
 DoneExactly =
     (qs : List Question)
     → (T (every (λ (q : Question). not (q .given)) qs) → answerOf qs ≡ Done) × (answerOf qs ≡ Done → T (every (λ (q : Question). not (q .given)) qs))
+
+-- where every question has a number above 0, a call with the number 0 is done
+abbrev pub ZeroDone : Type 0
+ZeroDone = (qs : List Question) → T (every (λ (q : Question). ltb 0 (q .number)) qs) → numberOf (answerOf qs) ≡ 0 → answerOf qs ≡ Done
 
 abbrev pub Keeps : {A : Type 0} → (List A → Answer → List A → Type 0) → Type 0
 Keeps {A} says = (old : List A) (r : Answer) (new : List A) (number place : ℕ) → says old r new → r ≡ No number place → new ≡ old

@@ -26,7 +26,8 @@ use Rattle.interpolation.specs.Bands.{countOk, bandLimit, interpolated}
 use Rattle.refusals.specs.declared.Answer.{Answer}
 use Rattle.refusals.specs.declared.Answer.the-variants.{Done}
 use Rattle.refusals.proofs.Pinned.{fills}
-use Rattle.sns_encode.specs.Encode.{fieldsOf}
+use Rattle.refusals.specs.Answers.{kept}
+use Rattle.sns_encode.specs.Encode.{fieldsOf, encodedAs}
 use Rattle.sns_encode.proofs.Claims.{encode-fills}
 use Rattle.sns_decode.specs.Decode.{decodeAnswer}
 use Rattle.sns_decode.proofs.Claims.{decode-takes}
@@ -34,7 +35,7 @@ use Rattle.sns_interpolate.specs.Interpolate.{interpolateAnswer, InterpolateSay
 use Rattle.sns_interpolate.proofs.Claims.{interpolate-takes}
 use Rattle.sns_shape.specs.Shape.{ShapeSays}
 use Rattle.sns_shape.proofs.Claims.{shape-pinned}
-use Rattle.sns.specs.Alike.{BothAlike, EncodedWithin, EncodedBands, CallsAlike, BandsAlike, LinesAlike}
+use Rattle.sns.specs.Alike.{BothAlike, EncodedWithin, EncodedBands, Frame, FramesThere, CallsAlike, BandsAlike, LinesAlike}
 use Rattle.sns.proofs.EncodeClaims.{decodes-again}
 
 pub both-alike : BothAlike
@@ -73,6 +74,22 @@ encoded-bands factors count c =
     })
 
 -- ---- at the calls
+pub frames-there : FramesThere
+frames-there factors old other e l =
+    let q = quantizedOf factors in
+    let f : Frame factors (q .stage2 .scfq) (q .stage2 .scfq) =
+        record {
+          encoded = encodedAs Done q;
+          decoded = Done;
+          old = old;
+          other = other;
+          encodes = (ap (λ a. encodedAs a q) (sym e), ap (λ a. kept a (q .stage2 .scfq) old) (sym e));
+          done = refl;
+          sixteen = l;
+          decodes = (rw l (sym (decodes-again factors .0)), both-alike factors);
+        } in
+    (q .stage2 .scfq, q .stage2 .scfq, f, refl, refl)
+
 pub calls-alike : CallsAlike
 calls-alike factors sent got f =
     let e = encode-fills factors (f .old) (f .encoded) sent (f .encodes) (f .done) in

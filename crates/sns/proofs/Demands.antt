@@ -83,6 +83,7 @@ pub ends-alike : Alike
 ends-alike =
     record {
       both-alike = alike.both-alike;
+      frames-there = alike.frames-there;
       calls-alike = alike.calls-alike;
       encoded-within = alike.encoded-within;
       encoded-bands = alike.encoded-bands;

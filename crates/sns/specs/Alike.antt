@@ -13,7 +13,7 @@ use Rattle.interpolation.specs.Bands.{countOk}
 use Rattle.refusals.specs.declared.Answer.{Answer}
 use Rattle.refusals.specs.declared.Answer.the-variants.{Done}
 use Rattle.sns_encode.specs.declared.Encoded.{Encoded}
-use Rattle.sns_encode.specs.Encode.{fieldsOf, EncodeSays}
+use Rattle.sns_encode.specs.Encode.{encodeAnswer, fieldsOf, EncodeSays}
 use Rattle.sns_decode.specs.Decode.{DecodeSays}
 use Rattle.sns_interpolate.specs.Interpolate.{interpolateAnswer, InterpolateSays}
 use Rattle.sns_shape.specs.Shape.{ShapeSays}
@@ -41,6 +41,12 @@ pub record Frame (factors sent got : List Float) : Type 0 where
   pub done : encoded .answer ≡ Done
   pub sixteen : length other ≡ 16
   pub decodes : DecodeSays (encoded .fields) other decoded got
+
+-- there is such a frame for all factors that encode takes, whatever the two buffers hold
+abbrev pub FramesThere : Type 0
+FramesThere =
+    (factors old other : List Float) → encodeAnswer factors (length old) ≡ Done → length other ≡ 16
+    → (sent : List Float) × (got : List Float) × (f : Frame factors sent got) × (f .old ≡ old) × (f .other ≡ other)
 
 -- decode is done, and what both leave is equal, whatever both buffers held
 abbrev pub CallsAlike : Type 0

@@ -74,10 +74,11 @@ pub record Unbeaten : Type 0 where
   pub record-ordered : pulses.RecordOrdered
 
 -- Both ends shape alike: the sixteen factors from the encoder equal, bit for bit, those the decoder makes from its answer, and what encode
--- leaves is what decode of its answer leaves, whatever both buffers held. They lie within 11, so interpolate takes them; and the bands, and the
+-- leaves is what decode of its answer leaves, whatever both buffers held, for all factors that encode takes. They lie within 11, so interpolate takes them; and the bands, and the
 -- lines that are shaped by gains made of them by one rule, are equal at both ends.
 pub record Alike : Type 0 where
   pub both-alike : alike.BothAlike
+  pub frames-there : alike.FramesThere
   pub calls-alike : alike.CallsAlike
   pub encoded-within : alike.EncodedWithin
   pub encoded-bands : alike.EncodedBands

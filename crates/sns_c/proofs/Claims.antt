@@ -8,7 +8,8 @@ use Rattle.encoder.specs.declared.Quantized.{Quantized}
 use Rattle.refusals.specs.declared.Answer.{Answer}
 use Rattle.refusals.specs.declared.Answer.the-variants.{Done}
 use Rattle.refusals.specs.Answers.{numberOf, kept}
-use Rattle.sns_encode.specs.Encode.{fieldsOf, encodedAs}
+use Rattle.sns_encode.specs.Encode.{fieldsOf, encodeAnswer, encodedAs}
+use Rattle.sns_encode.proofs.Claims.{answered-by, encode-zero}
 use Rattle.sns_decode.specs.Decode.{decodeAnswer}
 use Rattle.sns.proofs.EncodeClaims.{decodes-again}
 use Rattle.sns.proofs.Alike.{both-alike}
@@ -63,8 +64,9 @@ done-code : {A : Type 0} (a : Answer) (filled old : List A) (c : Code) (new : Li
 done-code a filled old c new e s = (s .code .number ∙ ap numberOf e, s .buffer ∙ ap (λ b. kept b filled old) e)
 
 pub codes-alike : CodesAlike
-codes-alike factors old other r c sent got e s l d =
+codes-alike factors old other r c sent got s z l d =
     let q = quantizedOf factors in
+    let e = encode-zero factors (length old) (sym (ap numberOf (answered-by (encodeAnswer factors (length old)) q)) ∙ sym (s .encoded .number) ∙ z) in
     let f = fields-in _ q r e (s .encoded) in
     let done = done-code (decodeAnswer (fieldsIn r) (length other)) (fieldFactors (fieldsIn r)) other c got (rw (f, l) (decodes-again factors .0)) d in
     (done .0, s .buffer ∙ ap (λ b. kept b (q .stage2 .scfq) old) e ∙ both-alike factors ∙ sym (ap fieldFactors f) ∙ sym (done .1))

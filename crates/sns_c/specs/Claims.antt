@@ -9,7 +9,6 @@ use Rattle.encoder.specs.Quantized.{quantizedOf}
 use Rattle.encoder.specs.declared.Quantized.{Quantized}
 use Rattle.factor.specs.declared.Checked.{Checked}
 use Rattle.refusals.specs.declared.Answer.{Answer}
-use Rattle.refusals.specs.declared.Answer.the-variants.{Done}
 use Rattle.frame_fields.specs.declared.Fields.{Fields}
 use Rattle.sns_encode.specs.Encode.{encodeAnswer}
 use Rattle.sns_decode.specs.Decode.{decodeAnswer}
@@ -44,10 +43,10 @@ CheckedPinned = (a : Checked) (r r′ : CheckedCode) → IsChecked a r → IsChe
 abbrev pub fieldsIn : EncodedCode → Fields
 fieldsIn r = fieldsFrom (r .«low_row») (r .«high_row») (r .shape) (r .gain) (r .«sign_a») (r .«sign_b») (r .«index_a») (r .«index_b»)
 
--- where lc3_sns_encode is done, lc3_sns_decode of the fields in its answer, into any other sixteen, is done too, and both leave the same, whatever both held
+-- where lc3_sns_encode answers number 0, so does lc3_sns_decode of the fields in its answer, into any other sixteen, and both leave the same, whatever both held
 abbrev pub CodesAlike : Type 0
 CodesAlike =
     (factors old other : List Float) (r : EncodedCode) (c : Code) (sent got : List Float)
-    → encodeAnswer factors (length old) ≡ Done → EncodedSays (encodeAnswer factors (length old)) (quantizedOf factors) old r sent
+    → EncodedSays (encodeAnswer factors (length old)) (quantizedOf factors) old r sent → r .number ≡ 0
     → length other ≡ 16 → CodeSays (decodeAnswer (fieldsIn r) (length other)) (fieldFactors (fieldsIn r)) other c got
     → (c .number ≡ 0) × (sent ≡ got)

@@ -13,28 +13,31 @@ use Rattle.refusals.specs.declared.Element.the-variants.{Factor}
 use Rattle.refusals.specs.Answers.{kept}
 use Rattle.sns_encode.specs.declared.Encoded.{Encoded}
 use Rattle.sns_encode.specs.Encode.{encodeQuestions, encodeAnswer, encodedAs, EncodeSays}
-use Rattle.sns_encode.specs.Claims.{EncodePinned, EncodeKeeps, FactorsAlone, EncodeTaken, EncodeTakes}
-use Rattle.refusals.proofs.Answers.{done}
-use Rattle.refusals.proofs.Elements.{all-done, done-all}
+use Rattle.sns_encode.specs.Claims.{EncodePinned, EncodeKeeps, EncodeZero, FactorsAlone, EncodeTaken, EncodeTakes}
+use Rattle.refusals.proofs.Answers.{done, zero-done}
+use Rattle.refusals.proofs.Elements.{all-done, done-all, element-numbers}
 use Rattle.sns_encode.proofs.EncodeAnswers.{by-factors}
 
 pub encode-pinned : EncodePinned
 encode-pinned factors old r r′ new new′ (p, q) (p′, q′) = (p ∙ sym p′, q ∙ sym q′)
 
-answered-by : (a : Answer) (q : Quantized) → encodedAs a q .answer ≡ a
+pub answered-by : (a : Answer) (q : Quantized) → encodedAs a q .answer ≡ a
 answered-by Done q = refl
 answered-by (No number place) q = refl
 
+answer-is : (factors old : List Float) (r : Encoded) → r ≡ encodedAs (encodeAnswer factors (length old)) (quantizedOf factors) → encodeAnswer factors (length old) ≡ r .answer
+answer-is factors old r p = sym (answered-by (encodeAnswer factors (length old)) (quantizedOf factors)) ∙ sym (ap (λ x. x .answer) p)
+
 pub encode-keeps : EncodeKeeps
 encode-keeps factors old r new number place (p, q) e =
-    let refused = sym (answered-by (encodeAnswer factors (length old)) (quantizedOf factors)) ∙ sym (ap (λ x. x .answer) p) ∙ e in
+    let refused = answer-is factors old r p ∙ e in
     (q ∙ ap (λ a. kept a (quantizedOf factors .stage2 .scfq) old) refused, p ∙ ap (λ a. encodedAs a (quantizedOf factors)) refused)
 
 -- a call that is done answers what is quantized, and fills the buffer with its factors
 pub encode-fills : (factors old : List Float) (r : Encoded) (new : List Float) → EncodeSays factors old r new → r .answer ≡ Done
     → (r ≡ encodedAs Done (quantizedOf factors)) × (new ≡ quantizedOf factors .stage2 .scfq)
 encode-fills factors old r new (p, q) e =
-    let taken = sym (answered-by (encodeAnswer factors (length old)) (quantizedOf factors)) ∙ sym (ap (λ x. x .answer) p) ∙ e in
+    let taken = answer-is factors old r p ∙ e in
     (p ∙ ap (λ a. encodedAs a (quantizedOf factors)) taken, q ∙ ap (λ a. kept a (quantizedOf factors .stage2 .scfq) old) taken)
 
 pub factors-alone : FactorsAlone
@@ -45,6 +48,10 @@ factors-alone factors old old′ r r′ new new′ l (p, q) (p′, q′) = (p �
 
     filled : (o n : List Float) → n ≡ kept (encodeAnswer factors (length o)) (quantizedOf factors .stage2 .scfq) o → encodeAnswer factors (length o) ≡ Done → n ≡ quantizedOf factors .stage2 .scfq
     filled o n q d = q ∙ ap (λ a. kept a (quantizedOf factors .stage2 .scfq) o) d
+
+pub encode-zero : EncodeZero
+unfolding encodeQuestions
+encode-zero factors len e = zero-done _ (element-numbers (Factor factorLimit) 0 factors) e
 
 pub encode-takes : EncodeTakes
 unfolding encodeQuestions

@@ -10,6 +10,7 @@ use Rattle.float_laws.specs.Kind.{finite}
 use Rattle.list_laws.specs.Every.{both, every}
 use Rattle.factor.specs.Check.{factorLimit, beyond}
 use Rattle.refusals.specs.declared.Answer.the-variants.{Done, No}
+use Rattle.refusals.specs.Answers.{numberOf}
 use Rattle.sns_encode.specs.declared.Encoded.{Encoded}
 use Rattle.sns_encode.specs.Encode.{encodeAnswer, refusedAs, EncodeSays}
 
@@ -35,6 +36,10 @@ abbrev pub EncodeTakes : Type 0
 EncodeTakes =
     (factors : List Float) (len : ℕ)
     → (EncodeTaken factors len → encodeAnswer factors len ≡ Done) × (encodeAnswer factors len ≡ Done → EncodeTaken factors len)
+
+-- where its number is 0 it is done
+abbrev pub EncodeZero : Type 0
+EncodeZero = (factors : List Float) (len : ℕ) → numberOf (encodeAnswer factors len) ≡ 0 → encodeAnswer factors len ≡ Done
 
 -- it depends on the sixteen factors alone: whatever two lent buffers held before, the answers are the same, and so is what the buffers hold after
 abbrev pub FactorsAlone : Type 0

@@ -51,7 +51,7 @@ Unpacks =
     (residual code : List Float) → let r = stage2Of residual code in
     pulsesAt (r .«shape_j») (r .numbers) ≡ signedFor (targetOf residual) (r .«shape_j»)
 
--- the sixteen factors are those of the same codes with the shape, the gain and the pulses that the signs and indices unpack to: what the decoder has
+-- the sixteen factors are those of the same codes, with the shape, the gain and the pulses that the signs and indices unpack to
 abbrev pub FactorsAgain : Type 0
 FactorsAgain =
     (residual code : List Float) → let r = stage2Of residual code in

@@ -53,7 +53,7 @@ choiceOf t = choiceAt (winnerOf t (candidatesOf t))
 unfoldable pub selectedOf : List Float → Selected
 selectedOf t = let c = choiceOf t in record { «shape_j» = c .shape; gind = c .gain; «g_gain_i_shape_j» = gainAt (c .shape) (c .gain) }
 
--- All that stage 2 gives, for a target and the codes. The factors are those that the decoder makes of the codes, the shape, the gain and the signed pulses.
+-- All that stage 2 gives, for a target and the codes. The factors are, by the formula of both ends, those of the codes, the shape, the gain and the signed pulses.
 unfoldable pub resultOf : List Float → List Float → SnsStage2Result
 resultOf t code =
     let c = choiceOf t in
