@@ -10,7 +10,7 @@ use Rattle.list_laws.proofs.Every.{both-left, both-right}
 use Rattle.refusals.specs.declared.Answer.{Answer}
 use Rattle.refusals.specs.declared.Answer.the-variants.{Done, No}
 use Rattle.refusals.specs.Answers.{Question, ask, answerOf, numberOf, placeOf}
-use Rattle.refusals.specs.Claims.{FirstGiven, RefusedExactly, DoneExactly, ZeroDone}
+use Rattle.refusals.specs.Claims.{FirstGiven, RefusedExactly, DoneExactly, numbered, ZeroDone}
 
 pub none-left : Done ≡ answerOf []
 unfolding answerOf
@@ -139,10 +139,10 @@ done-exactly qs = (there qs, back qs)
 pub zero-done : ZeroDone
 unfolding answerOf
 zero-done [] t e = refl
-zero-done (q ∷ qs) t e = by (q .given) (zero-done qs (both-right (ltb 0 (q .number)) (every (λ (q : Question). ltb 0 (q .number)) qs) t)) e
+zero-done (q ∷ qs) t e = by (q .given) (zero-done qs (both-right (ltb 0 (q .number)) (numbered qs) t)) e
   where
     above : 0 < q .number
-    above = ltb→lt 0 (q .number) (both-left (ltb 0 (q .number)) (every (λ (q : Question). ltb 0 (q .number)) qs) t)
+    above = ltb→lt 0 (q .number) (both-left (ltb 0 (q .number)) (numbered qs) t)
 
     by : (b : Bool) → (numberOf (answerOf qs) ≡ 0 → answerOf qs ≡ Done) → numberOf (cond b (No (q .number) (q .place)) (answerOf qs)) ≡ 0
         → cond b (No (q .number) (q .place)) (answerOf qs) ≡ Done

@@ -4,7 +4,7 @@ use mathlib.Core.Bool.{Bool, true, false, not}
 use mathlib.Core.List.{List, [], _∷_}
 use Prim.Native.Nat.{ℕ, suc, _+_, _<_}
 use native.Mathlib.Numerals.{add-one}
-use lib.Dec.{T, ltb}
+use lib.Dec.{T}
 use lib.ListN.{length, getD, drop}
 use lib.Seq.{drop-cons}
 use lib.Ieee.{Float, nan}
@@ -20,8 +20,9 @@ use Rattle.refusals.specs.declared.Answer.{Answer}
 use Rattle.refusals.specs.declared.Answer.the-variants.{Done}
 use Rattle.refusals.specs.declared.Element.{Element}
 use Rattle.refusals.specs.declared.Element.the-variants.{Factor, Value}
-use Rattle.refusals.specs.Answers.{Question, answerOf}
+use Rattle.refusals.specs.Answers.{answerOf}
 use Rattle.refusals.specs.Elements.{elementAsked, elementQuestions}
+use Rattle.refusals.specs.Claims.{ElementsNumbered}
 use Rattle.refusals.proofs.Answers.{none-left, not-given, done, andThen, appended, first-done, both-done, not-yes}
 
 -- ---- what is left from i on starts with the element at i
@@ -44,15 +45,15 @@ is false t = absurd t
 -- one element
 one-done : (element : Element) (place : ℕ) (x : Float) → T (takenAs element x) → Done ≡ answerOf (elementAsked element place x)
 one-done (Factor limit) place x t =
-    not-given 7 place _ _ (ap not (is (finite x) (both-left (finite x) (not (beyond limit x)) t)))
-    (not-given 8 place _ _ (not-yes _ (both-right (finite x) (not (beyond limit x)) t)) none-left)
-one-done Value place x t = not-given 12 place _ _ (ap not (is (finite x) t)) none-left
+    not-given _ place _ _ (ap not (is (finite x) (both-left (finite x) (not (beyond limit x)) t)))
+    (not-given _ place _ _ (not-yes _ (both-right (finite x) (not (beyond limit x)) t)) none-left)
+one-done Value place x t = not-given _ place _ _ (ap not (is (finite x) t)) none-left
 
 done-one : (element : Element) (place : ℕ) (x : Float) → answerOf (elementAsked element place x) ≡ Done → T (takenAs element x)
 done-one (Factor limit) place x e =
-    let d = done 7 place (not (finite x)) _ e in
-    both-are (finite x) (not (beyond limit x)) (yes (not-false (finite x) (d .0))) (no {b = beyond limit x} (done 8 place (beyond limit x) _ (d .1) .0))
-done-one Value place x e = yes (not-false (finite x) (done 12 place (not (finite x)) _ e .0))
+    let d = done _ place (not (finite x)) _ e in
+    both-are (finite x) (not (beyond limit x)) (yes (not-false (finite x) (d .0))) (no {b = beyond limit x} (done _ place (beyond limit x) _ (d .1) .0))
+done-one Value place x e = yes (not-false (finite x) (done _ place (not (finite x)) _ e .0))
 
 -- a row of them
 pub all-done : (element : Element) (place : ℕ) (xs : List Float) → T (every (takenAs element) xs) → Done ≡ answerOf (elementQuestions element place xs)
@@ -69,12 +70,12 @@ done-all element place (x ∷ xs) e =
     let d = both-done (elementAsked element place x) _ e in
     both-are (takenAs element x) (every (takenAs element) xs) (done-one element place x (d .0)) (done-all element (suc place) xs (d .1))
 
--- ---- the questions of elements have numbers above 0
-pub element-numbers : (element : Element) (place : ℕ) (xs : List Float) → T (every (λ (q : Question). ltb 0 (q .number)) (elementQuestions element place xs))
+-- ---- their numbers are above 0
+pub elements-numbered : ElementsNumbered
 unfolding elementQuestions
-element-numbers element place [] = tt
-element-numbers (Factor limit) place (x ∷ xs) = element-numbers (Factor limit) (suc place) xs
-element-numbers Value place (x ∷ xs) = element-numbers Value (suc place) xs
+elements-numbered element place [] = tt
+elements-numbered (Factor limit) place (x ∷ xs) = elements-numbered (Factor limit) (suc place) xs
+elements-numbered Value place (x ∷ xs) = elements-numbered Value (suc place) xs
 
 -- ---- each factor of a row that is taken is within the limit
 pub within-limit : (xs : List Float) → answerOf (elementQuestions (Factor factorLimit) 0 xs) ≡ Done → (i : ℕ) → i < length xs → Within (getD xs i nan) 64 1

@@ -43,8 +43,8 @@ joined qs rest m n = rw (appended qs rest) (by (answerOf qs) m)
 
 -- an element's questions have the element's place
 of-element : (element : Element) (place : ℕ) (x : Float) → place ≤ 400 → Most (elementAsked element place x)
-of-element (Factor limit) place x h = step 7 place _ _ h (λ p. step 8 place _ _ h (λ q. none))
-of-element Value place x h = step 12 place _ _ h (λ p. none)
+of-element (Factor limit) place x h = step _ place _ _ h (λ p. step _ place _ _ h (λ q. none))
+of-element Value place x h = step _ place _ _ h (λ p. none)
 
 -- the elements of a row of at most 400, from a place on
 pub of-elements : (element : Element) (place : ℕ) (xs : List Float) → place + length xs ≤ 400 → Most (elementQuestions element place xs)

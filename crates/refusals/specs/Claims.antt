@@ -1,12 +1,15 @@
--- What is claimed of the questions and of what a refusal leaves. The proofs are in proofs/Answers.antt.
+-- What is claimed of the questions and of what a refusal leaves. The proofs are in proofs/Answers and proofs/Elements.
 use mathlib.Core.Path.{_≡_}
-use mathlib.Core.Bool.{true, not}
+use mathlib.Core.Bool.{Bool, true, not}
 use mathlib.Core.List.{List, _∷_, _++_}
 use Prim.Native.Nat.{ℕ}
 use lib.Dec.{T, ltb}
+use lib.Ieee.{Float}
 use Rattle.list_laws.specs.Every.{every}
 use Rattle.refusals.specs.declared.Answer.{Answer}
 use Rattle.refusals.specs.declared.Answer.the-variants.{Done, No}
+use Rattle.refusals.specs.declared.Element.{Element}
+use Rattle.refusals.specs.Elements.{elementQuestions}
 use Rattle.refusals.specs.Answers.{Question, ask, answerOf, numberOf}
 
 -- a question of this number and place is given, and none before it
@@ -26,9 +29,17 @@ DoneExactly =
     (qs : List Question)
     → (T (every (λ (q : Question). not (q .given)) qs) → answerOf qs ≡ Done) × (answerOf qs ≡ Done → T (every (λ (q : Question). not (q .given)) qs))
 
--- where every question has a number above 0, a call with the number 0 is done
+-- every question's number is above 0
+abbrev pub numbered : List Question → Bool
+numbered qs = every (λ (q : Question). ltb 0 (q .number)) qs
+
+-- where it is so, a call with the number 0 is done
 abbrev pub ZeroDone : Type 0
-ZeroDone = (qs : List Question) → T (every (λ (q : Question). ltb 0 (q .number)) qs) → numberOf (answerOf qs) ≡ 0 → answerOf qs ≡ Done
+ZeroDone = (qs : List Question) → T (numbered qs) → numberOf (answerOf qs) ≡ 0 → answerOf qs ≡ Done
+
+-- it is so of the elements' questions
+abbrev pub ElementsNumbered : Type 0
+ElementsNumbered = (element : Element) (place : ℕ) (xs : List Float) → T (numbered (elementQuestions element place xs))
 
 abbrev pub Keeps : {A : Type 0} → (List A → Answer → List A → Type 0) → Type 0
 Keeps {A} says = (old : List A) (r : Answer) (new : List A) (number place : ℕ) → says old r new → r ≡ No number place → new ≡ old

@@ -78,16 +78,16 @@ pub frames-there : FramesThere
 frames-there factors old other e l =
     let q = quantizedOf factors in
     let f : Frame factors (q .stage2 .scfq) (q .stage2 .scfq) =
-        record {
-          encoded = encodedAs Done q;
-          decoded = Done;
-          old = old;
-          other = other;
-          encodes = (ap (λ a. encodedAs a q) (sym e), ap (λ a. kept a (q .stage2 .scfq) old) (sym e));
-          done = refl;
-          sixteen = l;
-          decodes = (rw l (sym (decodes-again factors .0)), both-alike factors);
-        } in
+    record {
+      encoded = encodedAs Done q;
+      decoded = Done;
+      old = old;
+      other = other;
+      encodes = (ap (λ a. encodedAs a q) (sym e), ap (λ a. kept a (q .stage2 .scfq) old) (sym e));
+      done = refl;
+      sixteen = l;
+      decodes = (rw l (sym (decodes-again factors .0)), both-alike factors);
+    } in
     (q .stage2 .scfq, q .stage2 .scfq, f, refl, refl)
 
 pub calls-alike : CallsAlike

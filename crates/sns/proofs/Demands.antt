@@ -23,6 +23,7 @@ answered =
       check-pinned = check.check-pinned;
       check-asked = check.check-asked;
       encode-pinned = encode.encode-pinned;
+      encode-zero = encode.encode-zero;
       decode-pinned = decode.decode-pinned;
       pulses-pinned = decode.pulses-pinned;
       interpolate-pinned = interpolate.interpolate-pinned;

@@ -17,13 +17,14 @@ use Rattle.sns.specs.Alike as alike
 
 -- 1. Any numbers and any buffers get an answer. A call is refused with the first of its questions that is given, always then and only
 -- then, and done exactly when none is; two results that a call's statement allows are equal, and so are the buffers; one factor has
--- the number that it has in a row of factors.
+-- the number that it has in a row of factors; encode has the number 0 only where it is done.
 pub record Answered : Type 0 where
   pub refused-exactly : refusals.RefusedExactly
   pub done-exactly : refusals.DoneExactly
   pub check-pinned : check.CheckPinned
   pub check-asked : check.CheckAsked
   pub encode-pinned : encode.EncodePinned
+  pub encode-zero : encode.EncodeZero
   pub decode-pinned : decode.DecodePinned
   pub pulses-pinned : decode.PulsesPinned
   pub interpolate-pinned : interpolate.InterpolatePinned

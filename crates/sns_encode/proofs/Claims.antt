@@ -15,7 +15,7 @@ use Rattle.sns_encode.specs.declared.Encoded.{Encoded}
 use Rattle.sns_encode.specs.Encode.{encodeQuestions, encodeAnswer, encodedAs, EncodeSays}
 use Rattle.sns_encode.specs.Claims.{EncodePinned, EncodeKeeps, EncodeZero, FactorsAlone, EncodeTaken, EncodeTakes}
 use Rattle.refusals.proofs.Answers.{done, zero-done}
-use Rattle.refusals.proofs.Elements.{all-done, done-all, element-numbers}
+use Rattle.refusals.proofs.Elements.{all-done, done-all, elements-numbered}
 use Rattle.sns_encode.proofs.EncodeAnswers.{by-factors}
 
 pub encode-pinned : EncodePinned
@@ -51,7 +51,7 @@ factors-alone factors old old′ r r′ new new′ l (p, q) (p′, q′) = (p �
 
 pub encode-zero : EncodeZero
 unfolding encodeQuestions
-encode-zero factors len e = zero-done _ (element-numbers (Factor factorLimit) 0 factors) e
+encode-zero factors len e = zero-done _ (elements-numbered (Factor factorLimit) 0 factors) e
 
 pub encode-takes : EncodeTakes
 unfolding encodeQuestions
