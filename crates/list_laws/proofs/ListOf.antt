@@ -14,17 +14,17 @@ module _ {A : Type 0} where
   length_list_of zero g = refl
   length_list_of (suc n) g = ap suc (length_list_of n (λ k. g (suc k)))
 
-  pub get_d_list_of : (n : ℕ) (g : ℕ → A) (z : A) (i : ℕ) → i < n → get_or (list_of n g) i z ≡ g i
+  pub get_or_list_of : (n : ℕ) (g : ℕ → A) (z : A) (i : ℕ) → i < n → get_or (list_of n g) i z ≡ g i
   unfolding list_of
-  get_d_list_of zero g z i h = absurd (not-suc-le-zero h)
-  get_d_list_of (suc n) g z zero h = refl
-  get_d_list_of (suc n) g z (suc i) h = get_d_list_of n (λ k. g (suc k)) z i (le_of_suc-le-suc h)
+  get_or_list_of zero g z i h = absurd (not-suc-le-zero h)
+  get_or_list_of (suc n) g z zero h = refl
+  get_or_list_of (suc n) g z (suc i) h = get_or_list_of n (λ k. g (suc k)) z i (le_of_suc-le-suc h)
 
   -- a list of n elements, each of which is g's
   pub is_list_of : (n : ℕ) (g : ℕ → A) (z : A) (xs : List A) → length xs ≡ n → ((i : ℕ) → i < n → get_or xs i z ≡ g i) → xs ≡ list_of n g
   is_list_of n g z xs l h =
       ext_get_or z xs (list_of n g) (l ∙ sym (length_list_of n g))
-      (λ i q. let k : i < n = subst (λ (m : ℕ). i < m) l q in h i k ∙ sym (get_d_list_of n g z i k))
+      (λ i q. let k : i < n = subst (λ (m : ℕ). i < m) l q in h i k ∙ sym (get_or_list_of n g z i k))
 
   pub same_list_of : (n : ℕ) (g h : ℕ → A) → ((i : ℕ) → i < n → g i ≡ h i) → list_of n g ≡ list_of n h
   unfolding list_of
