@@ -1,4 +1,7 @@
 // The band limits, a table for each rate and frame length.
+
+#![tactic(auto)]
+
 ghost use Rattle.std.specs.Prelude.{◌≡◌, ◌<◌};
 ghost use Rattle.band_index_tables.specs.Bands.{limits_of, handed_out};
 

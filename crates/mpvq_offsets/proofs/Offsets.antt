@@ -9,7 +9,7 @@ use lib.ListN.{length, get_or}
 use Rattle.list_laws.specs.Every.{grid_from}
 use Rattle.list_laws.specs.ListOf.{list_of}
 use Rattle.list_laws.proofs.Every.{at_grid}
-use Rattle.list_laws.proofs.ListOf.{get_d_list_of}
+use Rattle.list_laws.proofs.ListOf.{get_or_list_of}
 use Rattle.mpvq_offsets.specs.Offsets.{offset_of, offset_table, entry_of}
 use Rattle.mpvq_offsets.specs.Claims.{OffsetsObey}
 
@@ -86,7 +86,7 @@ arm place key x h e p = p ∙ rw (← e) (entry (place / 11) (place % 11) (omega
 -- the table's entries, and so its recurrence
 table_entry : (n k : ℕ) → n < 16 → k < 11 → entry_of offset_table n k ≡ offset_of n k
 unfolding offset_table
-table_entry n k h l = rw (get_d_list_of 16 (λ n. list_of 11 (λ k. offset_of n k)) [] n h) (get_d_list_of 11 (λ k. offset_of n k) 0 k l)
+table_entry n k h l = rw (get_or_list_of 16 (λ n. list_of 11 (λ k. offset_of n k)) [] n h) (get_or_list_of 11 (λ k. offset_of n k) 0 k l)
 
 pub offsets_obey : OffsetsObey
 unfolding offset_of

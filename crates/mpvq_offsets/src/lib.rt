@@ -1,5 +1,7 @@
 // The pulse offsets A(n,k), one number at a time. A `match` that gives constants is read in memory, where a constant array
 // would be stored on the stack at each call.
+#![tactic(auto)]
+
 ghost use Rattle.std.specs.Prelude.{◌≡◌, ◌<◌, ◌/◌, ◌%◌};
 ghost use Rattle.mpvq_offsets.specs.Offsets.{offset_of};
 

@@ -1,5 +1,8 @@
 // The square roots of the whole numbers 1 to 101, each the nearest f32. Public for the crates above only; every result
 // is pinned. A caller asks for the table once and lends it on.
+
+#![tactic(auto)]
+
 ghost use Rattle.std.specs.Prelude.{◌≡◌, ◌≤◌};
 ghost use Rattle.roots.specs.Root.{root_of, root_table};
 

@@ -1,6 +1,8 @@
 // The shapes: each set of pulse vectors states its dimension, pulse count and size as constants of a type of its own, and
 // the set of a shape how many gains the shape has; PulseSet's constructors, the scan and the joint index read them there.
 // Public for the crates above only; every result is pinned.
+#![tactic(auto)]
+
 ghost use Rattle.std.specs.Prelude.{◌≡◌, ◌<◌};
 ghost use Rattle.sns_tables.specs.Gains.{gains_of, gain_at};
 ghost use Rattle.shapes.specs.Sets.{set_a, set_b, found_of};
@@ -8,7 +10,7 @@ ghost use Rattle.shapes.specs.Sets.{set_a, set_b, found_of};
 use sns_tables::spec_noise_shape_quant_tables as tables;
 
 // Shape 0, set A: ten pulses on places 0 to 9.
-#[derive(Drop)]
+#[derive(Clone, Copy)]
 pub struct RegularA {}
 
 impl RegularA {
@@ -22,7 +24,7 @@ impl RegularA {
 }
 
 // Shape 0, set B: one pulse on places 10 to 15.
-#[derive(Drop)]
+#[derive(Clone, Copy)]
 pub struct RegularB {}
 
 impl RegularB {
@@ -34,7 +36,7 @@ impl RegularB {
 }
 
 // Shape 1: ten pulses on places 0 to 9, and none on the others.
-#[derive(Drop)]
+#[derive(Clone, Copy)]
 pub struct RegularLf {}
 
 impl RegularLf {
@@ -48,7 +50,7 @@ impl RegularLf {
 }
 
 // Shape 2: eight pulses on sixteen places.
-#[derive(Drop)]
+#[derive(Clone, Copy)]
 pub struct OutlierNear {}
 
 impl OutlierNear {
@@ -62,7 +64,7 @@ impl OutlierNear {
 }
 
 // Shape 3: six pulses on sixteen places.
-#[derive(Drop)]
+#[derive(Clone, Copy)]
 pub struct OutlierFar {}
 
 impl OutlierFar {
@@ -76,7 +78,7 @@ impl OutlierFar {
 }
 
 // A set of pulse vectors: so many places, so many pulses, and so many vectors of either lead sign.
-#[derive(Drop)]
+#[derive(Clone, Copy)]
 pub struct PulseSet {
     pub dimension: usize,
     pub pulses: usize,
@@ -84,7 +86,7 @@ pub struct PulseSet {
 }
 
 // The set of a pair, or none.
-#[derive(Drop)]
+#[derive(Clone, Copy)]
 pub enum Found {
     Set(PulseSet),
     Nothing,

@@ -16,11 +16,11 @@ others : (p i : ℕ) → Others p i → p ≤ i
 others zero i o = omega arith
 others (suc p) i o = let h = others p i o.0 in let q = o.1 in omega arith
 
-last : tie.Need-returns-176
+last : tie.Need-returns-in_default
 unfolding offset_rows
 last c =
     let place = c.before.args.place in
-    let h : 175 ≤ place = others 175 _ c.match.rest in
+    let h : 175 ≤ place = others 175 _ c.in_default.in_default-own.rest in
     arm place 175 _ (search rules) (omega (arith, h, c.before.requires)) refl
 
 pub offset_at_spec : {M : Type 1} → statement M

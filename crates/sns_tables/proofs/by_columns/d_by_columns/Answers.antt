@@ -4,12 +4,8 @@ use lib.Ieee.{of_bits}
 use Rattle.float_laws.specs.Decimal.{plus, minus}
 use Rattle.list_laws.specs.ListOf.{list_of}
 use Rattle.sns_tables.specs.Rotation.{d_rows, d_columns}
-use Rattle.sns_tables.proofs.by_columns.d_by_columns.Statement.{statement}
-use Rattle.sns_tables.proofs.by_columns.d_by_columns.Tie as tie
+use Rattle.sns_tables.proofs.by_columns.d_by_columns.Goals as goal
 
-returns : tie.Need-returns
+pub returns : goal.returns
 unfolding d_rows d_columns list_of plus minus of_bits
 returns c = refl
-
-pub d_by_columns_spec : {M : Type 1} → statement M
-d_by_columns_spec = tie.close (tie.spec returns)

@@ -3,12 +3,8 @@ use mathlib.Core.Path.{refl}
 use lib.Ieee.{of_bits}
 use Rattle.float_laws.specs.Decimal.{plus, minus}
 use Rattle.sns_tables.specs.Rotation.{d_rows}
-use Rattle.sns_tables.proofs.spec_noise_shape_quant_tables.d.Statement.{statement}
-use Rattle.sns_tables.proofs.spec_noise_shape_quant_tables.d.Tie as tie
+use Rattle.sns_tables.proofs.spec_noise_shape_quant_tables.d.Goals as goal
 
-returns : tie.Need-returns
+pub returns : goal.returns
 unfolding d_rows plus minus of_bits
 returns c = refl
-
-pub d_spec : {M : Type 1} → statement M
-d_spec = tie.close (tie.spec returns)

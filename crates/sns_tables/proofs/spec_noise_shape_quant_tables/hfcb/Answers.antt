@@ -3,12 +3,8 @@ use mathlib.Core.Path.{refl}
 use lib.Ieee.{of_bits}
 use Rattle.float_laws.specs.Decimal.{plus, minus}
 use Rattle.sns_tables.specs.Codebooks.{hfcb_rows}
-use Rattle.sns_tables.proofs.spec_noise_shape_quant_tables.hfcb.Statement.{statement}
-use Rattle.sns_tables.proofs.spec_noise_shape_quant_tables.hfcb.Tie as tie
+use Rattle.sns_tables.proofs.spec_noise_shape_quant_tables.hfcb.Goals as goal
 
-returns : tie.Need-returns
+pub returns : goal.returns
 unfolding hfcb_rows plus minus of_bits
 returns c = refl
-
-pub hfcb_spec : {M : Type 1} → statement M
-hfcb_spec = tie.close (tie.spec returns)

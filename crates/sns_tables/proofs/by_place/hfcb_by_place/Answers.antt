@@ -4,12 +4,8 @@ use lib.Ieee.{of_bits}
 use Rattle.float_laws.specs.Decimal.{plus, minus}
 use Rattle.list_laws.specs.ListOf.{list_of}
 use Rattle.sns_tables.specs.Codebooks.{hfcb_rows}
-use Rattle.sns_tables.proofs.by_place.hfcb_by_place.Statement.{statement}
-use Rattle.sns_tables.proofs.by_place.hfcb_by_place.Tie as tie
+use Rattle.sns_tables.proofs.by_place.hfcb_by_place.Goals as goal
 
-returns : tie.Need-returns
+pub returns : goal.returns
 unfolding list_of hfcb_rows plus minus of_bits
 returns c = refl
-
-pub hfcb_by_place_spec : {M : Type 1} → statement M
-hfcb_by_place_spec = tie.close (tie.spec returns)

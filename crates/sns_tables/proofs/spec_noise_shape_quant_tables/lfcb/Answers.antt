@@ -3,12 +3,8 @@ use mathlib.Core.Path.{refl}
 use lib.Ieee.{of_bits}
 use Rattle.float_laws.specs.Decimal.{plus, minus}
 use Rattle.sns_tables.specs.Codebooks.{lfcb_rows}
-use Rattle.sns_tables.proofs.spec_noise_shape_quant_tables.lfcb.Statement.{statement}
-use Rattle.sns_tables.proofs.spec_noise_shape_quant_tables.lfcb.Tie as tie
+use Rattle.sns_tables.proofs.spec_noise_shape_quant_tables.lfcb.Goals as goal
 
-returns : tie.Need-returns
+pub returns : goal.returns
 unfolding lfcb_rows plus minus of_bits
 returns c = refl
-
-pub lfcb_spec : {M : Type 1} → statement M
-lfcb_spec = tie.close (tie.spec returns)
