@@ -1,5 +1,7 @@
 // The column of the offset table that an index falls into: the pulses left after a place. Public for the crates above only;
 // the result is pinned.
+#![tactic(auto)]
+
 ghost use Rattle.std.specs.Prelude.{◌≡◌, ◌<◌, ◌≤◌, ◌+◌, ◌-◌, ◌*◌};
 ghost use Rattle.mpvq_offsets.specs.Offsets.{offset_of};
 ghost use Rattle.columns.specs.Column.{column_of};
@@ -7,7 +9,7 @@ ghost use Rattle.columns.specs.Column.{column_of};
 use mpvq_offsets::{mpvq_offset, offset_at};
 
 // What a place leaves: the pulses after it, and what is left of the index.
-#[derive(Drop)]
+#[derive(Clone, Copy)]
 pub struct Left {
     pub pulses: usize,
     pub rest: u32,

@@ -1,5 +1,7 @@
 // What a quantized frame holds, which both ends speak of: its fields, the numbers among them, and the joint index. When
 // fields are accepted is in specs/Accepted. Public for the crates above only; the result is pinned.
+#![tactic(auto)]
+
 ghost use Rattle.std.specs.Prelude.{◌≡◌, ◌<◌};
 ghost use Rattle.frame_fields.specs.Accepted.{Indexed};
 ghost use Rattle.frame_fields.specs.Joint.{joint_index};
@@ -7,7 +9,7 @@ ghost use Rattle.frame_fields.specs.Joint.{joint_index};
 use shapes::{OutlierNear, RegularA, RegularLf};
 
 // A quantized frame: both codebook rows, shape, gain, and the lead signs and indices of sets A and B.
-#[derive(Drop)]
+#[derive(Clone, Copy)]
 pub struct Fields {
     pub low_row: u32,
     pub high_row: u32,
@@ -21,7 +23,7 @@ pub struct Fields {
 
 // What the pulses of a shape are numbered with: the lead signs and the indices of sets A and B, `ls_inda`, `ls_indb`,
 // `idxa` and `idxb` in the Rust.
-#[derive(Drop)]
+#[derive(Clone, Copy)]
 pub struct Numbers {
     pub sign_a: u32,
     pub sign_b: u32,

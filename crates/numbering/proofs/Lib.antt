@@ -2,6 +2,7 @@ pub mod Bijection
 pub mod Claims
 pub mod Corners
 pub mod Counts
+pub mod Signed
 pub mod Signs
 pub mod Suffix
 pub mod Walk

@@ -39,7 +39,7 @@ unfoldable pub index_of : List ℤ → ℕ
 index_of [] = 0
 index_of (x ∷ v) = offset_of (length v) (pulses_of v) + pushed x (index_of v) (lead_sign v)
 
--- UNPACKING, the same read backwards. The pulses left after a place are the column that the index falls into, `columnOf`.
+-- UNPACKING, the same read backwards. The pulses left after a place are the column that the index falls into, `column_of`.
 
 -- d pulses of a sign: positive for 0, negative for any other
 unfoldable pub signed : ℕ → ℕ → ℤ

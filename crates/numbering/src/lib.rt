@@ -1,13 +1,15 @@
 // The numbering of pulse vectors: `mvpq_enum` packs a vector into an index and a lead sign, `mpvq_deenum` unpacks them.
 // Public for the crates above only: a caller shows the `requires`, which the refusals of the public calls give. Every result
 // is pinned by specs/Numbering.antt.
+#![tactic(auto)]
+
 ghost use Rattle.std.specs.Prelude.{◌≡◌, ◌++◌, ◌<◌, ◌≤◌, ◌+◌, ◌-◌, ◌*◌, pos, nat_abs, length, take, set, replicate};
 ghost use Rattle.numbering.specs.Numbering.{pulses_of, lead_sign, sign_before, pushed, index_of, signed, next_sign, next_index, vector_at};
 
 use mpvq_offsets::mpvq_offset;
 
 // An index with its lead sign.
-#[derive(Drop)]
+#[derive(Clone, Copy)]
 pub struct Numbered {
     pub index: u32,
     pub sign: u32,
@@ -79,6 +81,7 @@ pub fn mvpq_enum(v: &[i32]) -> Numbered
 }
 
 // k pulses with a sign: a byte's worth at the most.
+#[tactic(auto, using(crate::proofs::Signed::plus_is, crate::proofs::Signed::minus_is))]
 pub fn mind2vec_one(k: usize, sign: u32) -> i32
     requires { k < 256 }
     ensures { result ≡ signed sign k }

@@ -1,5 +1,7 @@
 // Sixteen pulses of a shape as floats, and their length, which both ends divide by. Public for the crates above only: a
 // caller lends the roots and shows the `requires`. Every result is pinned.
+#![tactic(auto)]
+
 ghost use Rattle.std.specs.Prelude.{◌≡◌, ◌≤◌, ◌*◌, nat_abs};
 ghost use Rattle.std.specs.Float.{binary32};
 ghost use Rattle.std.specs.Float.Ieee.{of_int};

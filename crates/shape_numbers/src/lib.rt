@@ -1,5 +1,7 @@
 // A shape's sixteen pulses as the numbers of its sets, and back: `enumerate` numbers them, `pulses` makes them again. Public
 // for the crates above only; every result is pinned.
+#![tactic(auto)]
+
 ghost use Rattle.std.specs.Prelude.{◌≡◌, ◌<◌};
 ghost use Rattle.shape_numbers.specs.Pulses.{pulses_at, Shaped};
 ghost use Rattle.shape_numbers.specs.Numbers.{numbers_of};

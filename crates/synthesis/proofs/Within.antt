@@ -18,7 +18,7 @@ use Rattle.float_laws.proofs.Size.{within_test, within_up, mul_within, add_withi
 use Rattle.float_laws.proofs.Divide.{div_within}
 use Rattle.float_laws.proofs.Whole.{int_within}
 use Rattle.list_laws.specs.Every.{every, every_below, every_from, grid_from}
-use Rattle.list_laws.proofs.ListOf.{get_d_list_of}
+use Rattle.list_laws.proofs.ListOf.{get_or_list_of}
 use Rattle.list_laws.proofs.Every.{at, at_below, at_place, at_grid}
 use Rattle.sns_tables.specs.Codebooks.{lfcb_rows, hfcb_rows, code_at}
 use Rattle.sns_tables.specs.Rotation.{d_at}
@@ -144,10 +144,10 @@ module _ (low high shape gain : ℕ) (y : List ℤ) (h : Synthesisable low high 
   factor_within =
       let code = codes_of low high in
       let x = factor_of code y (scale_of (gain_at shape gain) y) n in
-      subst (λ (x : Float). Within x 11 1) (sym (get_d_list_of 16 (factor_of code y (scale_of (gain_at shape gain) y)) nan n l))
+      subst (λ (x : Float). Within x 11 1) (sym (get_or_list_of 16 (factor_of code y (scale_of (gain_at shape gain) y)) nan n l))
       (within_up x 11137 1024 11 1 (lit< tt) (lit≤ tt)
       (add_within binary32 11137 1024 (lit< tt) tt (get_or code n nan) (mul binary32 (scale_of (gain_at shape gain) y) (columns_to (floats_of y) n 16)) 4960 6177 (lit≤ tt)
-      (subst (λ (x : Float). Within x 4960 1024) (sym (get_d_list_of 16 (code_of low high) nan n l)) (code_within low high n h.tables.low_row h.tables.high_row l)) product_within))
+      (subst (λ (x : Float). Within x 4960 1024) (sym (get_or_list_of 16 (code_of low high) nan n l)) (code_within low high n h.tables.low_row h.tables.high_row l)) product_within))
 
 pub factors_within_11 : FactorsWithin11
 factors_within_11 low high shape gain y h n l = factor_within low high shape gain y h n l

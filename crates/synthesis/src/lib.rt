@@ -1,6 +1,8 @@
 // Synthesis, by the same functions at both ends: sixteen factors of sixteen codes, a shape's pulses and a gain; and the
 // decoder's, whose codes are those of two codebook rows. Public for the crates above only: a caller lends the codebooks and
 // the roots, and shows the `requires`. Every result is pinned.
+#![tactic(auto)]
+
 ghost use Rattle.std.specs.Prelude.{◌≡◌, ◌<◌};
 ghost use Rattle.list_laws.specs.ListOf.{list_of};
 ghost use Rattle.sns_tables.specs.Codebooks.{lfcb_rows, hfcb_rows};

@@ -2,20 +2,16 @@
 use mathlib.Core.Path.{◌≡◌, refl}
 use Prim.Native.Nat.{ℕ, zero, suc, ◌/◌, ◌%◌}
 use Rattle.numbering.specs.Numbering.{next_index, next_sign}
-use Rattle.numbering.proofs.setval_update_sign.Statement.{statement}
-use Rattle.numbering.proofs.setval_update_sign.Tie as tie
+use Rattle.numbering.proofs.setval_update_sign.Goals as goal
 
 some : (d s r : ℕ) → (d ≡ 0 → ⊥) → (r / 2 ≡ next_index d r) × (r % 2 ≡ next_sign d s r)
 unfolding next_index next_sign
 some zero s r h = absurd (h refl)
 some (suc d) s r h = (refl, refl)
 
-returns : tie.Need-returns
+pub returns-then-delta-eq0 : goal.returns-then-delta-eq0
 unfolding next_index next_sign
-returns c = rw c.if1.true (refl, refl)
+returns-then-delta-eq0 c = rw c.if-delta-eq0.true (refl, refl)
 
-returns-2 : tie.Need-returns-2
-returns-2 c = some c.before.args.delta c.before.args.sign c.before.args.ind c.if1.false
-
-pub setval_update_sign_spec : {M : Type 1} → statement M
-setval_update_sign_spec = tie.close (tie.spec returns returns-2)
+pub returns : goal.returns
+returns c = some c.args.delta c.args.sign c.args.ind c.if-delta-eq0.false
