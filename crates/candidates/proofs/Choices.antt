@@ -13,7 +13,7 @@ use Rattle.float_laws.proofs.Scan.{least_under}
 use Rattle.list_laws.specs.Every.{both, every_below}
 use Rattle.list_laws.proofs.Every.{both_left, both_right, at_below}
 use Rattle.list_laws.specs.ListOf.{list_of}
-use Rattle.list_laws.proofs.ListOf.{length_list_of, get_d_list_of}
+use Rattle.list_laws.proofs.ListOf.{length_list_of, get_or_list_of}
 use Rattle.sns_tables.specs.Gains.{gain_rows, gains_of}
 use Rattle.candidates.specs.declared.Choice.{Choice}
 use Rattle.candidates.specs.Scan.{gains_scanned, scanned_from, scanned, choices, choice_at, distortion_at, winner_of}
@@ -40,7 +40,7 @@ module _ (s c : ℕ) (cs : List ℕ) where
   choice_own k z h =
       sym
       (ap (λ (l : List Choice). get_or l k z) scan_is ∙ get_or-append own (scanned_from (suc s) cs) z k (subst (λ (n : ℕ). k < n) (sym own_length) h)
-      ∙ get_d_list_of c (λ gain. record { shape = s; gain = gain }) z k h)
+      ∙ get_or_list_of c (λ gain. record { shape = s; gain = gain }) z k h)
 
   -- one of a later shape's
   pub choice_past : (k : ℕ) (z : Choice) → c ≤ k → get_or (scanned_from (suc s) cs) (k - c) z ≡ get_or (scanned_from s (c ∷ cs)) k z

@@ -20,7 +20,7 @@ use Rattle.float_laws.proofs.Running.{sum_plain}
 use Rattle.float_laws.proofs.Scan.{least_first}
 use Rattle.float_laws.proofs.Size.{within_finite, within_up, mul_within, whole_exact}
 use Rattle.float_laws.specs.Literal.{squared}
-use Rattle.list_laws.proofs.ListOf.{get_d_list_of}
+use Rattle.list_laws.proofs.ListOf.{get_or_list_of}
 use Rattle.roots.proofs.Unit.{unit}
 use Rattle.sns_tables.proofs.Sizes.{gain_within}
 use Rattle.pulse_length.specs.Length.{squared_length, length_of}
@@ -33,7 +33,7 @@ use Rattle.candidates.proofs.Choices.{choices_are, choice_shape, choice_gain}
 pub units : Units
 unfolding candidate_of
 units y s n h =
-    subst (λ (x : Float). Within x 1 1) (sym (get_d_list_of 16 (λ n. div binary32 (of_int binary32 (get_or y n (pos 0))) (length_of y)) nan n h))
+    subst (λ (x : Float). Within x 1 1) (sym (get_or_list_of 16 (λ n. div binary32 (of_int binary32 (get_or y n (pos 0))) (length_of y)) nan n h))
     (unit (squared_length y) (get_or y n (pos 0)) s.above s.below (square_under y n))
 
 -- ---- distortions

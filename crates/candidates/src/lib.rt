@@ -1,6 +1,8 @@
 // The candidates of the shapes, their distortion under each gain, and the first least of all: step 9 of the Rust's
 // `sns_quant_stage2` and its choice of shape and gain. Public for the crates above only; every result is pinned by a
 // definition.
+#![tactic(auto)]
+
 ghost use Rattle.std.specs.Prelude.{◌≡◌, [], ◌-◌, ◌<◌, get_or};
 ghost use Rattle.std.specs.Float.{nan};
 ghost use Rattle.float_laws.specs.Scan.{least_to};
@@ -19,7 +21,7 @@ pub const CHOICES: usize = RegularA::GAINS
     + OutlierFar::GAINS;
 
 // A shape and the number of one of its gains.
-#[derive(Drop)]
+#[derive(Clone, Copy)]
 pub struct Choice {
     pub shape: usize,
     pub gain: usize,

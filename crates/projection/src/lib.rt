@@ -1,5 +1,7 @@
 // Shape 3's start: step 1 of the Rust's `sns_quant_stage2`. Public for the crates above only; every result is pinned by a
 // definition.
+#![tactic(auto)]
+
 ghost use Rattle.std.specs.Prelude.{◌≡◌, ◌||◌, ◌*◌, ◌<◌, T, get_or};
 ghost use Rattle.std.specs.Float.{nan};
 ghost use Rattle.std.specs.Float.Ieee.{lt};
@@ -111,7 +113,7 @@ fn pair_of(abs_x: &[f32; 16], y: &[u8; 16]) -> SearchRecord
 }
 
 // Pulses, how many there are, and their pair.
-#[derive(Drop)]
+#[derive(Clone, Copy)]
 pub struct Start {
     pub y: [u8; 16],
     pub k: usize,

@@ -1,5 +1,7 @@
 // A quick way to the best place: a guess by the quotients c·c / e, and a test that the guess strictly beats every other
 // place. Then the scan takes it too; where the test fails, the caller scans. Each loop is one over sixteen lanes.
+#![tactic(auto)]
+
 ghost use Rattle.std.specs.Prelude.{◌≡◌, cond, ◌<◌, leb};
 ghost use Rattle.float_laws.specs.Literal.{nought};
 ghost use Rattle.pulse_guess.specs.Lanes.{first_of, squared_lanes, energies_of, unbeaten_by, count_to};

@@ -12,7 +12,7 @@ use Rattle.float_laws.proofs.Logic.{yes}
 use Rattle.float_laws.proofs.Scan.{scan_takes}
 use Rattle.float_laws.proofs.Order.{lt_asym, lt_irrefl}
 use Rattle.float_laws.specs.Literal.{nought, one, two, squared}
-use Rattle.list_laws.proofs.ListOf.{get_d_list_of}
+use Rattle.list_laws.proofs.ListOf.{get_or_list_of}
 use Rattle.pulse_search.specs.declared.SearchRecord.{SearchRecord}
 use Rattle.pulse_search.specs.Pulse.{pair_at, replaces, best_to}
 use Rattle.float_laws.specs.Whole.{amount}
@@ -39,12 +39,12 @@ module _ (a : List Float) (y : List ℕ) (r : SearchRecord) (last : ℕ) (l : la
   unfolding squared_lanes first_of pair_at
   lane_square n h =
       let i : n < 16 = omega arith in
-      get_d_list_of 16 (λ n. squared (add binary32 r.correlation (get_or (first_of a last) n nan))) nan n i
-      ∙ ap (λ (x : Float). squared (add binary32 r.correlation x)) (get_d_list_of 16 (λ n. cond (leb n last) (get_or a n nan) nought) nan n i ∙ ap (λ (b : Bool). cond b (get_or a n nan) nought) (le-leb n last h))
+      get_or_list_of 16 (λ n. squared (add binary32 r.correlation (get_or (first_of a last) n nan))) nan n i
+      ∙ ap (λ (x : Float). squared (add binary32 r.correlation x)) (get_or_list_of 16 (λ n. cond (leb n last) (get_or a n nan) nought) nan n i ∙ ap (λ (b : Bool). cond b (get_or a n nan) nought) (le-leb n last h))
 
   lane_energy : (n : ℕ) → n ≤ last → get_or (energies_of y r.energy) n nan ≡ (pair_at a y r n).energy
   unfolding energies_of pair_at
-  lane_energy n h = get_d_list_of 16 (λ n. add binary32 (add binary32 r.energy (mul binary32 two (amount y n))) one) nan n (omega arith)
+  lane_energy n h = get_or_list_of 16 (λ n. add binary32 (add binary32 r.energy (mul binary32 two (amount y n))) one) nan n (omega arith)
 
   -- one unbeaten place is the guess itself
   pub guess_is : (low c e : List Float) (g k : ℕ) → low ≡ first_of a last → c ≡ squared_lanes low r.correlation → e ≡ energies_of y r.energy → g ≤ last → k ≡ count_to (unbeaten_by c e g) 16 → k ≡ 1 → g ≡ best_to a y r last

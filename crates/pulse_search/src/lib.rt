@@ -1,12 +1,14 @@
 // Single pulses, each at the place that serves best: the search that shapes 3, 2 and 1 share. The running search
 // record goes through it by value. Public for the crates above only; every result is pinned by a definition, but for the
 // guess of crate pulse_guess, which promises a place below 16 and is tested before it is taken.
+#![tactic(auto)]
+
 ghost use Rattle.std.specs.Prelude.{◌≡◌, ◌+◌, ◌-◌, ◌<◌, ◌≤◌, length};
 ghost use Rattle.pulse_guess.specs.Lanes.{first_of};
 ghost use Rattle.pulse_search.specs.Pulse.{pair_at, replaces, best_to, start, more, total_to};
 
 // The running search record: the correlation of the pulses with the target, and their energy.
-#[derive(Drop)]
+#[derive(Clone, Copy)]
 pub struct SearchRecord {
     pub correlation: f32,
     pub energy: f32,

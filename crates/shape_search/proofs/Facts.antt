@@ -10,7 +10,7 @@ use lib.Dec.{ltb, lit<, lit≤}
 use lib.ListN.{length, get_or, length-set}
 use lib.Ieee.{Float, nan, lt}
 use Rattle.float_laws.proofs.Scan.{scan_under}
-use Rattle.list_laws.proofs.ListOf.{length_list_of, get_d_list_of}
+use Rattle.list_laws.proofs.ListOf.{length_list_of, get_or_list_of}
 use Rattle.pulse_search.specs.Pulse.{Search, sum_over, total_to, missing, up_to}
 use Rattle.pulse_search.proofs.Sums.{sum_same, sum_past, sum_set, sum_grow, sum_flat}
 use Rattle.pulse_search.proofs.Laws.{more_length, more_total, more_past}
@@ -51,11 +51,11 @@ two_total a = up_total a 15 8 (shape3 a) (le_of_eq (sym (three_length a))) (le_t
 -- ---- the places kept
 low_below : (y : List ℕ) (i : ℕ) → i < 10 → get_or (low_of y) i 0 ≡ get_or y i 0
 unfolding low_of
-low_below y i h = get_d_list_of 16 (λ n. cond (ltb n 10) (get_or y n 0) 0) 0 i (le_trans h (lit≤ tt)) ∙ ap (λ (b : Bool). cond b (get_or y i 0) 0) (lt-ltb i 10 h)
+low_below y i h = get_or_list_of 16 (λ n. cond (ltb n 10) (get_or y n 0) 0) 0 i (le_trans h (lit≤ tt)) ∙ ap (λ (b : Bool). cond b (get_or y i 0) 0) (lt-ltb i 10 h)
 
 low_above : (y : List ℕ) (i : ℕ) → 10 ≤ i → i < 16 → get_or (low_of y) i 0 ≡ 0
 unfolding low_of
-low_above y i h k = get_d_list_of 16 (λ n. cond (ltb n 10) (get_or y n 0) 0) 0 i k ∙ ap (λ (b : Bool). cond b (get_or y i 0) 0) (le-ltb i 10 h)
+low_above y i h k = get_or_list_of 16 (λ n. cond (ltb n 10) (get_or y n 0) 0) 0 i k ∙ ap (λ (b : Bool). cond b (get_or y i 0) 0) (le-ltb i 10 h)
 
 pub low_sum : (f : ℕ → ℕ) (y : List ℕ) → sum_over f (low_of y) 10 ≡ sum_over f y 10
 low_sum f y = sum_same f (low_of y) y 10 (low_below y)

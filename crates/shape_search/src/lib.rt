@@ -1,5 +1,7 @@
 // The pulses of the four shapes, without signs: steps 1 to 7 of the Rust's `sns_quant_stage2`. Public for the crates
 // above only; every result is pinned by a definition.
+#![tactic(auto)]
+
 ghost use Rattle.std.specs.Prelude.{◌≡◌, ◌*◌, ◌<◌};
 ghost use Rattle.list_laws.specs.ListOf.{list_of};
 ghost use Rattle.projection.specs.Projection.{Absolutes};

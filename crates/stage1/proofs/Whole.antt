@@ -9,7 +9,7 @@ use Rattle.float_laws.specs.Scan.{least_to}
 use Rattle.float_laws.proofs.Scan.{least_under, least_same}
 use Rattle.float_laws.proofs.Alike.{sum_alike}
 use Rattle.list_laws.specs.ListOf.{list_of}
-use Rattle.list_laws.proofs.ListOf.{get_d_list_of, same_list_of}
+use Rattle.list_laws.proofs.ListOf.{get_or_list_of, same_list_of}
 use Rattle.sns_tables.specs.Codebooks.{lfcb_rows, hfcb_rows, code_at}
 use Rattle.sns_tables.specs.Codes.{code_of}
 use Rattle.sns_tables.specs.ByPlace.{by_place, turned_at}
@@ -31,7 +31,7 @@ module _ (g : ℕ → Float) (rows : List (List Float)) where
   same_row : (cb : List (List Float)) (d : List Float) (r : ℕ) → cb ≡ by_place rows → d ≡ list_of 32 (λ row. distance g (turned_at cb row))
       → r ≡ least_to (λ i. get_or d i nan) 31 → r ≡ least_to (λ row. distance g (code_at rows row)) 31
   same_row cb d r e p q =
-      q ∙ least_same _ _ 31 (λ i l. ap (λ (t : List Float). get_or t i nan) p ∙ get_d_list_of 32 _ nan i (up_to31 i l) ∙ rw e (same_distance i (up_to31 i l)))
+      q ∙ least_same _ _ 31 (λ i l. ap (λ (t : List Float). get_or t i nan) p ∙ get_or_list_of 32 _ nan i (up_to31 i l) ∙ rw e (same_distance i (up_to31 i l)))
 
 module _ (x : List Float) (cb : List (List Float)) (d : List Float) (r : ℕ) where
   pub low_row_lem : cb ≡ by_place lfcb_rows → d ≡ list_of 32 (λ row. distance (half x 0) (turned_at cb row)) → r ≡ least_to (λ i. get_or d i nan) 31 → r ≡ low_row x
@@ -51,4 +51,4 @@ module _ (x : List Float) (lf hf : ℕ) (a : lf ≡ low_row x) (b : hf ≡ high_
     both_codes = rw (← a, ← b) c
 
     pub less_codes : (r : List Float) → r ≡ list_of 16 (λ n. sub binary32 (get_or x n nan) (get_or s n nan)) → r ≡ residual x
-    less_codes r d = rw (← a, ← b) (d ∙ same_list_of 16 _ _ (λ n h. rw (c, get_d_list_of 16 (code_of lf hf) nan n h) refl))
+    less_codes r d = rw (← a, ← b) (d ∙ same_list_of 16 _ _ (λ n h. rw (c, get_or_list_of 16 (code_of lf hf) nan n h) refl))

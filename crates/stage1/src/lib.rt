@@ -1,6 +1,8 @@
 // Stage 1 of the quantizer: the nearest row of each codebook, its codes and the residual. Public for the crates above
 // only; every result is pinned by a definition. The codebooks are lent by place, so that the loop over the rows reads
 // the 32 codes of one place side by side; each row's own sum keeps its order.
+#![tactic(auto)]
+
 ghost use Rattle.std.specs.Prelude.{◌≡◌, ◌<◌, ◌≤◌, get_or};
 ghost use Rattle.std.specs.Float.{nan, binary32};
 ghost use Rattle.std.specs.Float.Ieee.{sub};
@@ -12,7 +14,7 @@ ghost use Rattle.sns_tables.specs.ByPlace.{by_place, turned_at};
 ghost use Rattle.stage1.specs.Stage1.{distance, half, rows_of, codes, residual};
 
 // The rows of the low and the high codebook.
-#[derive(Drop)]
+#[derive(Clone, Copy)]
 pub struct SnsStage1Result {
     pub ind_lf: usize,
     pub ind_hf: usize,

@@ -1,5 +1,7 @@
 // Stage 1 alone, for another program to call: the comparison with the Rust and the timing of this step use it. No part
 // of the product.
+#![tactic(auto)]
+
 ghost use Rattle.std.specs.Prelude.{◌≡◌, ◌+◌, ◌*◌};
 ghost use Rattle.stage1.specs.Stage1.{low_row, high_row, codes, residual};
 

@@ -9,7 +9,7 @@ use lib.IntN.{ℤ, pos, nat_abs}
 use lib.ListN.{length, get_or, take, drop, length-drop, take-append-drop}
 use lib.Seq.{length-take-le, take_all}
 use lib.Ieee.{Float, nan}
-use Rattle.list_laws.proofs.ListOf.{length_list_of, get_d_list_of}
+use Rattle.list_laws.proofs.ListOf.{length_list_of, get_or_list_of}
 use Rattle.shapes.specs.Sets.{set_a}
 use Rattle.shapes.proofs.Sets.{a_sound}
 use Rattle.numbering.specs.Numbering.{pulses_of, PulseVector, signed}
@@ -41,7 +41,7 @@ module _ (t : List Float) (y : List ℕ) where
 
   size_at : (n : ℕ) → n < 16 → nat_abs (get_or v n (pos 0)) ≡ get_or y n 0
   unfolding signed_row
-  size_at n h = ap nat_abs (get_d_list_of 16 (λ n. signed (sign_of (get_or t n nan)) (get_or y n 0)) (pos 0) n h) ∙ signed_size (sign_of (get_or t n nan)) (get_or y n 0)
+  size_at n h = ap nat_abs (get_or_list_of 16 (λ n. signed (sign_of (get_or t n nan)) (get_or y n 0)) (pos 0) n h) ∙ signed_size (sign_of (get_or t n nan)) (get_or y n 0)
 
   -- the first n places
   counted : (n : ℕ) → n ≤ 16 → pulses_of (take n v) ≡ total_to y n

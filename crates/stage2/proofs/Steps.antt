@@ -7,7 +7,7 @@ use lib.IntN.{ℤ}
 use lib.ListN.{get_or}
 use lib.Ieee.{Float, nan}
 use Rattle.list_laws.specs.ListOf.{list_of}
-use Rattle.list_laws.proofs.ListOf.{get_d_list_of, same_list_of}
+use Rattle.list_laws.proofs.ListOf.{get_or_list_of, same_list_of}
 use Rattle.sns_tables.specs.Gains.{gains_of, gain_at}
 use Rattle.frame_fields.specs.declared.Numbers.{Numbers}
 use Rattle.frame_fields.specs.Accepted.{Indexed}
@@ -30,7 +30,7 @@ use Rattle.stage2.proofs.Signs.{signed_shaped}
 -- ---- rows in a list of four
 module _ {A : Type 0} (g : ℕ → List A) (y : List (List A)) (e : y ≡ list_of 4 g) where
   pub row_at : (s : ℕ) → s < 4 → get_or y s [] ≡ g s
-  row_at s h = ap (λ (l : List (List A)). get_or l s []) e ∙ get_d_list_of 4 g [] s h
+  row_at s h = ap (λ (l : List (List A)). get_or l s []) e ∙ get_or_list_of 4 g [] s h
 
 -- the signed rows
 pub rows_are : (t : List Float) (y : List (List ℕ)) → y ≡ list_of 4 (pulses_for t) → (v0 v1 v2 v3 : List ℤ)
@@ -57,7 +57,7 @@ candidates_are t v q e p = p ∙ same_list_of 4 _ _ (λ s h. ap candidate_of (ro
 
 pub candidate_at : (t : List Float) (s : ℕ) → s < 4 → get_or (candidates_of t) s [] ≡ candidate_of (signed_for t s)
 unfolding candidates_of
-candidate_at t s h = get_d_list_of 4 (λ shape. candidate_of (signed_for t shape)) [] s h
+candidate_at t s h = get_or_list_of 4 (λ shape. candidate_of (signed_for t shape)) [] s h
 
 -- ---- the shape and the gain that win
 pub selected_is : (t : List Float) (q : List (List Float)) (gains : List Float) (best : ℕ) (c : Choice) → q ≡ candidates_of t → gains ≡ list_of choices gain_of → best ≡ winner_of t q → c ≡ choice_at best
@@ -65,7 +65,7 @@ pub selected_is : (t : List Float) (q : List (List Float)) (gains : List Float) 
 unfolding selected_of choice_of gain_of
 selected_is t q gains best c p g b e =
     let i = winner_of t (candidates_of t) in
-    let u : get_or (list_of choices gain_of) i nan ≡ gain_at (choice_at i).shape (choice_at i).gain = get_d_list_of choices gain_of nan i (winner_under t (candidates_of t)) in
+    let u : get_or (list_of choices gain_of) i nan ≡ gain_at (choice_at i).shape (choice_at i).gain = get_or_list_of choices gain_of nan i (winner_under t (candidates_of t)) in
     rw (e, b, p, g, u)
 
 pub chosen_shape : (t : List Float) → (choice_of t).shape < 4

@@ -1,5 +1,7 @@
 // Stage 2 of the quantizer, `sns_quant_stage2`: from the residual to the shape, the gain, the numbers and the sixteen
 // synthesised factors. Public for the crates above only; every result is pinned by a definition.
+#![tactic(auto)]
+
 ghost use Rattle.std.specs.Prelude.{◌≡◌, [], ◌<◌, get_or};
 ghost use Rattle.list_laws.specs.ListOf.{list_of};
 ghost use Rattle.roots.specs.Root.{root_table};
@@ -9,7 +11,7 @@ ghost use Rattle.stage2.specs.Stage2.{sign_of, signed_row, pulses_for, signed_fo
 
 use frame_fields::Numbers;
 
-#[derive(Drop)]
+#[derive(Clone, Copy)]
 pub struct SnsStage2Result {
     pub shape_j: usize,
     pub gind: usize,
@@ -75,7 +77,7 @@ fn normalize_candidates(roots: &[f32; 101], v: &[[i32; 16]; 4]) -> [[f32; 16]; 4
 }
 
 // The shape and the gain that win, with the gain's value.
-#[derive(Drop)]
+#[derive(Clone, Copy)]
 pub struct Selected {
     pub shape_j: usize,
     pub gind: usize,

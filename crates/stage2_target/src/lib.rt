@@ -1,5 +1,7 @@
 // What stage 2 searches for: the residual, rotated by D, and its absolute values. Public for the crates above only;
 // every result is pinned by a definition.
+#![tactic(auto)]
+
 ghost use Rattle.std.specs.Prelude.{◌≡◌, ◌<◌};
 ghost use Rattle.float_laws.specs.Absolute.{abs_of};
 ghost use Rattle.sns_tables.specs.Rotation.{d_rows};

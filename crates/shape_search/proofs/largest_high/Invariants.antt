@@ -1,0 +1,11 @@
+-- The scan upward from place 10.
+use mathlib.Core.Path.{◌≡◌}
+use Prim.Native.Nat.{◌≤◌, ◌-◌}
+use Rattle.shape_search.specs.Shape.{largest_to}
+use Rattle.shape_search.proofs.largest_high.Given as goal
+
+abbrev pub invariant-loop-n : goal.invariant-loop-n
+invariant-loop-n l = (l.n ≤ 5) × (l.n_best ≡ largest_to l.abs_x l.n) × (l.n_best ≤ 15)
+
+abbrev pub decreases-loop-n : goal.decreases-loop-n
+decreases-loop-n l = 5 - l.n

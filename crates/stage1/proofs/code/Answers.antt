@@ -1,0 +1,10 @@
+-- The low codebook below place 8, the high one from there.
+use native.Mathlib.Omega.{arith}
+use Rattle.stage1.proofs.Codes.{low_code, high_code}
+use Rattle.stage1.proofs.code.Goals as goal
+
+pub returns-then-n-lt8 : goal.returns-then-n-lt8
+returns-then-n-lt8 c = low_code _ _ _ _ c.requires.lfcb_value.0 c.requires.lf_bound.0 (omega arith)
+
+pub returns : goal.returns
+returns c = high_code _ _ _ _ c.requires.lfcb_value.1 c.requires.lf_bound.1 (omega arith) (omega arith)
