@@ -1,5 +1,7 @@
 // The decoder whole, the twin of `encoder`: the fields of a frame to their sixteen pulses, and to sixteen factors. Public
 // for the crates above only: a caller shows the `requires`. Every result is pinned.
+#![tactic(auto)]
+
 ghost use Rattle.std.specs.Prelude.{◌≡◌, ◌<◌};
 ghost use Rattle.frame_fields.specs.Accepted.{Accepted, numbers_in};
 ghost use Rattle.decoder.specs.Decoded.{field_pulses, field_factors};

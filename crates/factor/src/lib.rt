@@ -1,10 +1,13 @@
 // The check of one factor, and whether a value is finite. Public for the crates above only; every result is pinned.
+
+#![tactic(auto)]
+
 ghost use Rattle.std.specs.Prelude.{◌≡◌, T};
 ghost use Rattle.float_laws.specs.Kind.{finite};
 ghost use Rattle.factor.specs.Check.{factor_limit, checked_of};
 
 // The answer for one factor: the factor itself, the offending value, or nothing.
-#[derive(Drop)]
+#[derive(Clone, Copy)]
 pub enum Checked {
     Within(f32),
     TooFar(f32),

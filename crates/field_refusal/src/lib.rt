@@ -1,4 +1,7 @@
 // The decoder's fields, and when they are refused.
+
+#![tactic(auto)]
+
 ghost use Rattle.std.specs.Prelude.{◌≡◌, ◌&&◌, leb};
 ghost use Rattle.refusals.specs.Answers.{answer_of};
 ghost use Rattle.frame_fields.specs.Accepted.{uses_b};

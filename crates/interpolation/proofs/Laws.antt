@@ -13,7 +13,7 @@ use lib.Ieee.{Float, nan}
 use lib.Seq.{take_all}
 use Rattle.float_laws.proofs.Logic.{or_split}
 use Rattle.list_laws.specs.ListOf.{list_of}
-use Rattle.list_laws.proofs.ListOf.{length_list_of, get_d_list_of, same_list_of}
+use Rattle.list_laws.proofs.ListOf.{length_list_of, get_or_list_of, same_list_of}
 use Rattle.list_laws.proofs.Range.{Holds, holds_none, holds_join, holds_below, holds_up}
 use Rattle.interpolation.specs.Bands.{factor_at, between, past, band_of, halved_sum, narrow_of, count_ok, interpolated}
 
@@ -84,7 +84,7 @@ unfolding narrow_of
 old_bands f = same_list_of 60 (narrow_of (λ i. get_or (list_of 64 (band_of f)) i nan)) (narrow_of (band_of f)) (λ i l. by i (ltb i 4) refl l)
   where
     known : (i : ℕ) → i < 64 → get_or (list_of 64 (band_of f)) i nan ≡ band_of f i
-    known i l = get_d_list_of 64 (band_of f) nan i l
+    known i l = get_or_list_of 64 (band_of f) nan i l
 
     by : (i : ℕ) (t : Bool) → ltb i 4 ≡ t → i < 60
         → cond (ltb i 4) (halved_sum (get_or (list_of 64 (band_of f)) (2 * i) nan) (get_or (list_of 64 (band_of f)) (2 * i + 1) nan)) (get_or (list_of 64 (band_of f)) (i + 4) nan)

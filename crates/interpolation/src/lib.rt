@@ -1,5 +1,8 @@
 // Sixteen factors into 64 bands, or into 60 for 8 kHz and 7.5 ms. Public for the crates above only; every result is
 // pinned.
+
+#![tactic(auto)]
+
 ghost use Rattle.std.specs.Prelude.{◌≡◌, ◌≤◌, T, length, get_or, take};
 ghost use Rattle.std.specs.Float.{nan};
 ghost use Rattle.list_laws.specs.ListOf.{list_of};
@@ -79,7 +82,7 @@ fn copy(from: [f32; 64], bands: &mut [f32])
 // Fills the lent bands, 60 or 64 of them.
 pub fn interpolate(factors: &[f32; 16], bands: &mut [f32])
     requires factors_len { length factors.now ≡ 16 }
-    requires t { T (count_ok (length bands.old)) }
+    requires count { T (count_ok (length bands.old)) }
     ensures { bands.new ≡ interpolated factors.now (length bands.old) }
 {
     let old = spread(factors);

@@ -1,5 +1,8 @@
 // Lent rows of sixteen, copied and filled. Public for the crates above only: a caller shows the `requires`. Every result
 // is pinned.
+
+#![tactic(auto)]
+
 ghost use Rattle.std.specs.Prelude.{◌≡◌, length};
 
 // The elements of a lent row of sixteen.

@@ -1,6 +1,9 @@
 // What a public call answers where it gives nothing back but a filled buffer, and the scan of a lent row that the calls
 // share. When a call says no is written in specs/, as its questions in their order; the calls themselves stand in a crate
 // each.
+
+#![tactic(auto)]
+
 ghost use Rattle.std.specs.Prelude.{◌≡◌, T};
 ghost use Rattle.refusals.specs.Answers.{answer_of};
 ghost use Rattle.refusals.specs.Elements.{limit_finite, element_asked, element_questions};
@@ -8,7 +11,7 @@ ghost use Rattle.refusals.specs.Elements.{limit_finite, element_asked, element_q
 use factor::Checked;
 
 // Done, or no, with the number of the refusal and a place.
-#[derive(Drop)]
+#[derive(Clone, Copy)]
 pub enum Answer {
     Done,
     No(u32, usize),
@@ -16,7 +19,7 @@ pub enum Answer {
 
 // What the elements of a row are: factors, within a limit, or values that need only be finite (spectrum lines, linear
 // gains). It says which numbers they are refused with.
-#[derive(Drop)]
+#[derive(Clone, Copy)]
 pub enum Element {
     Factor(f32),
     Value,

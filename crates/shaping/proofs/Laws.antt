@@ -13,7 +13,7 @@ use lib.ListN.{length, get_or, take, drop, length-drop, length-map, get_or-map}
 use lib.Seq.{length-take-le, get_or-take, get_or-drop, ext_get_or}
 use lib.Ieee.{Float, nan, binary32, mul}
 use Rattle.list_laws.specs.ListOf.{list_of}
-use Rattle.list_laws.proofs.ListOf.{is_list_of, get_d_list_of, length_list_of, same_list_of}
+use Rattle.list_laws.proofs.ListOf.{is_list_of, get_or_list_of, length_list_of, same_list_of}
 use Rattle.list_laws.proofs.InPlace.{Passed}
 use Rattle.list_laws.proofs.Part.{length_replaced, before, within, after}
 use Rattle.band_index_tables.specs.Bands.{limits_of, bands_of, handed_out}
@@ -36,14 +36,14 @@ not_after first end i p = by (leb first i)
 
 -- ---- one band's lines
 -- the default element of a list of floats stays what it is
-get_d_scaled : (gain : Float) (xs : List Float) (i : ℕ) → get_or (map (λ line. mul binary32 line gain) xs) i nan ≡ mul binary32 (get_or xs i nan) gain
+get_or_scaled : (gain : Float) (xs : List Float) (i : ℕ) → get_or (map (λ line. mul binary32 line gain) xs) i nan ≡ mul binary32 (get_or xs i nan) gain
 unfolding mul
-get_d_scaled gain xs i = get_or-map (λ line. mul binary32 line gain) xs i nan
+get_or_scaled gain xs i = get_or-map (λ line. mul binary32 line gain) xs i nan
 
 pub scaled_all : (gain : Float) (xs ys : List Float) (i : ℕ) → length xs ≤ i → Passed nan (λ k. mul binary32 (get_or xs k nan) gain) xs ys i → ys ≡ map (λ line. mul binary32 line gain) xs
 scaled_all gain xs ys i h p =
     ext_get_or nan ys (map (λ line. mul binary32 line gain) xs) (p.same ∙ sym (length-map xs (λ line. mul binary32 line gain)))
-    (λ j l. p.done j (omega (arith, p.same)) ∙ sym (get_d_scaled gain xs j))
+    (λ j l. p.done j (omega (arith, p.same)) ∙ sym (get_or_scaled gain xs j))
 
 pub part_scaled : (a e : ℕ) (gain : Float) (xs ys : List Float) (h : a ≤ e) (k : e ≤ length xs) → ys ≡ map (λ line. mul binary32 line gain) (take (e - a) (drop a xs))
     → take a xs ++ (ys ++ drop (e - a) (drop a xs)) ≡ scaled_part a e gain xs
@@ -57,7 +57,7 @@ part_scaled a e gain xs ys h k p = is_list_of (length xs) _ nan _ (length_replac
 
     mid : (i : ℕ) → a ≤ i → i < e → get_or ys (i - a) nan ≡ mul binary32 (get_or xs i nan) gain
     mid i q r =
-        ap (λ (l : List Float). get_or l (i - a) nan) p ∙ get_d_scaled gain (take (e - a) (drop a xs)) (i - a)
+        ap (λ (l : List Float). get_or l (i - a) nan) p ∙ get_or_scaled gain (take (e - a) (drop a xs)) (i - a)
         ∙ ap (λ (x : Float). mul binary32 x gain) (get_or-take (e - a) (drop a xs) (i - a) nan (omega arith) ∙ get_or-drop a xs (i - a) nan ∙ ap (λ (j : ℕ). get_or xs j nan) (place a i q))
       where
         place : (a i : ℕ) → a ≤ i → a + (i - a) ≡ i
@@ -88,7 +88,7 @@ module _ (rate : ℕ) (ten : Bool) (r : rate < 5) where
   unfolding handed_out
   limit_at t b e h =
       ap (λ (l : List ℕ). get_or l b 0) e
-      ∙ get_d_list_of 65 (λ j. get_or (limits_of rate ten) j (get_or (limits_of rate ten) (length (limits_of rate ten) - 1) 0)) 0 b (omega (arith, bands_most))
+      ∙ get_or_list_of 65 (λ j. get_or (limits_of rate ten) j (get_or (limits_of rate ten) (length (limits_of rate ten) - 1) 0)) 0 b (omega (arith, bands_most))
       ∙ any_default (limits_of rate ten) b _ 0 (rw (limits rate ten r).count (less b (bands_of rate ten) h))
     where
       less : (b n : ℕ) → b ≤ n → b < n + 1
@@ -140,7 +140,7 @@ module _ (rate : ℕ) (ten : Bool) (r : rate < 5) where
       f ∙ rw (p, q, e)
       (ap (λ (m : ℕ). list_of m band) (length_list_of (length old) so_far)
       ∙ same_list_of (length old) band (λ i. shaped_line (limits_of rate ten) gains (b + 1) i (get_or old i nan))
-      (λ i l. ap (λ (x : Float). cond (in_band (limits_of rate ten) b i) (mul binary32 x (get_or gains b nan)) x) (get_d_list_of (length old) so_far nan i l)
+      (λ i l. ap (λ (x : Float). cond (in_band (limits_of rate ten) b i) (mul binary32 x (get_or gains b nan)) x) (get_or_list_of (length old) so_far nan i l)
       ∙ more_line gains b i (get_or old i nan) h ∙ ap (λ (m : ℕ). shaped_line (limits_of rate ten) gains m i (get_or old i nan)) (sym (add-one b))))
     where
       so_far : ℕ → Float

@@ -1,5 +1,8 @@
 // Shaping of a spectrum in place, band by band, and how many bands there are. Public for the crates above only: a caller
 // shows the `requires`. Every line at return and every other result is pinned.
+
+#![tactic(auto)]
+
 ghost use Rattle.std.specs.Prelude.{◌≡◌, map, ◌≤◌, ◌<◌, length};
 ghost use Rattle.std.specs.Float.{binary32};
 ghost use Rattle.std.specs.Float.Ieee.{mul};

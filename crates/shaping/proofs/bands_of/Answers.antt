@@ -3,8 +3,7 @@ use mathlib.Core.Path.{◌≡◌, refl}
 use mathlib.Core.Bool.{Bool, true, false}
 use Prim.Native.Nat.{ℕ, zero, suc}
 use Rattle.band_index_tables.specs.Bands.{bands_of}
-use Rattle.shaping.proofs.bands_of.Statement.{statement}
-use Rattle.shaping.proofs.bands_of.Tie as tie
+use Rattle.shaping.proofs.bands_of.Goals as goal
 
 later : (rate : ℕ) (ten : Bool) → (rate ≡ 0 → ⊥) → 64 ≡ bands_of rate ten
 unfolding bands_of
@@ -19,14 +18,11 @@ shorter : (rate : ℕ) (t : Bool) → rate ≡ 0 → t ≡ false → 60 ≡ band
 unfolding bands_of
 shorter rate t h e = rw (h, e)
 
-returns : tie.Need-returns
-returns c = later _ _ c.if1.true
+pub returns-then-rate-ne0 : goal.returns-then-rate-ne0
+returns-then-rate-ne0 c = later _ _ c.if-rate-ne0.true
 
-returns-2 : tie.Need-returns-2
-returns-2 c = ten _ _ c.before.if1.false c.if2.true
+pub returns-then-ten_ms : goal.returns-then-ten_ms
+returns-then-ten_ms c = ten _ _ c.if-rate-ne0.false c.if-ten_ms.true
 
-returns-3 : tie.Need-returns-3
-returns-3 c = shorter _ _ c.before.if1.false c.if2.false
-
-pub bands_of_spec : {M : Type 1} → statement M
-bands_of_spec = tie.close (tie.spec returns returns-2 returns-3)
+pub returns : goal.returns
+returns c = shorter _ _ c.if-rate-ne0.false c.if-ten_ms.false

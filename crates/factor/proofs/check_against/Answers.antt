@@ -7,8 +7,7 @@ use Rattle.float_laws.specs.Kind.{finite}
 use Rattle.factor.specs.Check.{checked_of}
 use Rattle.factor.specs.declared.Checked.TheVariants.{Within, NotFinite, TooFar}
 use Rattle.factor.proofs.Laws.{nan_not, infinity_not}
-use Rattle.factor.proofs.check_against.Statement.{statement}
-use Rattle.factor.proofs.check_against.Tie as tie
+use Rattle.factor.proofs.check_against.Goals as goal
 
 clash : {A : Type 0} → false ≡ true → A
 clash h = absurd (false≢true h)
@@ -65,37 +64,30 @@ not_below (fin s m e) (inf true) f h = clash (sym h)
 not_below (fin s m e) (inf false) f h = refl
 not_below (fin s m e) (fin t n d) f h = refl
 
-returns : tie.Need-returns
-returns c = is_nan _ _ c.if1.true
+pub returns-then-x : goal.returns-then-x
+returns-then-x c = is_nan _ _ c.if-x.true
 
-float-from-bits-infinity : tie.Need-float-from-bits-infinity
+pub float_from_bits-infinity : goal.float_from_bits-infinity
 unfolding nan_bits
-float-from-bits-infinity c = tt
+float_from_bits-infinity c = tt
 
-returns-2 : tie.Need-returns-2
+pub returns-then-x-infinity : goal.returns-then-x-infinity
 unfolding of_bits
-returns-2 c = is_infinite _ _ false c.if3.true
+returns-then-x-infinity c = is_infinite _ _ false c.if-x-infinity.true
 
-returns-3 : tie.Need-returns-3
+pub returns-then-x-limit : goal.returns-then-x-limit
 unfolding of_bits
-returns-3 c =
-    by_tests _ _ true _ (is_finite _ c.before.before.if1.false c.if3.false (above_none _ _ c.before.if2.true)) c.before.if2.true refl
+returns-then-x-limit c = by_tests _ _ true _ (is_finite _ c.if-x.false c.if-x-infinity.false (above_none _ _ c.if-x-limit.true)) c.if-x-limit.true refl
 
-returns-4 : tie.Need-returns-4
+pub returns-then-x-infinity-2 : goal.returns-then-x-infinity-2
 unfolding of_bits neg
-returns-4 c = is_infinite _ _ true c.if5.true
+returns-then-x-infinity-2 c = is_infinite _ _ true c.if-x-infinity-2.true
 
-returns-5 : tie.Need-returns-5
+pub returns-then-x-limit-2 : goal.returns-then-x-limit-2
 unfolding of_bits neg
-returns-5 c =
-    let b = c.before.before in
-    by_tests _ _ false true (is_finite _ b.before.if1.false (not_above _ _ b.before.before.requires b.if2.false) c.if5.false) b.if2.false c.before.if4.true
+returns-then-x-limit-2 c = by_tests _ _ false true (is_finite _ c.if-x.false (not_above _ _ c.requires c.if-x-limit.false) c.if-x-infinity-2.false) c.if-x-limit.false c.if-x-limit-2.true
 
-returns-6 : tie.Need-returns-6
-returns-6 c =
-    let b = c.before in
-    let f = b.before.before.requires in
-    by_tests _ _ false false (is_finite _ b.before.if1.false (not_above _ _ f b.if2.false) (not_below _ _ f c.if4.false)) b.if2.false c.if4.false
-
-pub check_against_spec : {M : Type 1} → statement M
-check_against_spec = tie.close (tie.spec returns float-from-bits-infinity returns-2 returns-3 returns-4 returns-5 returns-6)
+pub returns : goal.returns
+returns c =
+    let f = c.requires in
+    by_tests _ _ false false (is_finite _ c.if-x.false (not_above _ _ f c.if-x-limit.false) (not_below _ _ f c.if-x-limit-2.false)) c.if-x-limit.false c.if-x-limit-2.false

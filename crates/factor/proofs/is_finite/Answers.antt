@@ -4,8 +4,7 @@ use mathlib.Core.Bool.{true, false, false≢true}
 use lib.Ieee.{Float, nan, inf, fin, eq, ne, of_bits, neg, nan_bits}
 use Rattle.float_laws.specs.Kind.{finite}
 use Rattle.factor.proofs.Laws.{nan_not, infinity_not}
-use Rattle.factor.proofs.is_finite.Statement.{statement}
-use Rattle.factor.proofs.is_finite.Tie as tie
+use Rattle.factor.proofs.is_finite.Goals as goal
 
 is_neither : (x : Float) → ne x x ≡ false → eq x (inf false) ≡ false → ne x (inf true) ≡ finite x
 unfolding eq ne
@@ -14,20 +13,17 @@ is_neither (inf true) a b = refl
 is_neither (inf false) a b = absurd (false≢true (sym b))
 is_neither (fin s m e) a b = refl
 
-returns : tie.Need-returns
-returns c = sym (nan_not _ c.if1.true)
+pub returns-then-x : goal.returns-then-x
+returns-then-x c = sym (nan_not _ c.if-x.true)
 
-float-from-bits-infinity : tie.Need-float-from-bits-infinity
+pub float_from_bits-infinity : goal.float_from_bits-infinity
 unfolding nan_bits
-float-from-bits-infinity c = tt
+float_from_bits-infinity c = tt
 
-returns-2 : tie.Need-returns-2
+pub returns-then-x-infinity : goal.returns-then-x-infinity
 unfolding of_bits
-returns-2 c = sym (infinity_not _ false c.if2.true)
+returns-then-x-infinity c = sym (infinity_not _ false c.if-x-infinity.true)
 
-returns-3 : tie.Need-returns-3
+pub returns : goal.returns
 unfolding of_bits neg
-returns-3 c = is_neither _ c.before.if1.false c.if2.false
-
-pub is_finite_spec : {M : Type 1} → statement M
-is_finite_spec = tie.close (tie.spec returns float-from-bits-infinity returns-2 returns-3)
+returns c = is_neither _ c.if-x.false c.if-x-infinity.false
