@@ -8,6 +8,9 @@
 //   pack           a pulse vector into its index and lead sign
 //   shape          spectrum lines by linear gains, in place
 //   unpack         an index and a lead sign into the pulse vector
+
+#![tactic(auto)]
+
 pub mod check_factor;
 pub mod decode;
 pub mod encode;

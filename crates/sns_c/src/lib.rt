@@ -1,5 +1,8 @@
 // The public calls for C and Rust, as include/lc3_sns.h has them: thin, no rule of their own. An answer that is an enum goes
 // out as a struct of numbers, and each call is pinned by the definitions of that call's own crate.
+
+#![tactic(auto)]
+
 ghost use Rattle.std.specs.Prelude.{◌≤◌, length};
 ghost use Rattle.factor.specs.Check.{factor_limit, checked_of};
 ghost use Rattle.numbering.specs.Numbering.{vector_at};
@@ -23,7 +26,7 @@ use sns::pack::Packed;
 
 // What a call that fills a buffer answers; 0 and 0 where it is done.
 #[repr(C)]
-#[derive(Drop)]
+#[derive(Clone, Copy)]
 pub struct Code {
     pub number: u32,
     pub place: u32,
@@ -31,7 +34,7 @@ pub struct Code {
 
 // What packing answers.
 #[repr(C)]
-#[derive(Drop)]
+#[derive(Clone, Copy)]
 pub struct PackedCode {
     pub number: u32,
     pub place: u32,
@@ -41,7 +44,7 @@ pub struct PackedCode {
 
 // What the check of one factor answers.
 #[repr(C)]
-#[derive(Drop)]
+#[derive(Clone, Copy)]
 pub struct CheckedCode {
     pub number: u32,
     pub value: f32,
@@ -49,7 +52,7 @@ pub struct CheckedCode {
 
 // What the encoder answers.
 #[repr(C)]
-#[derive(Drop)]
+#[derive(Clone, Copy)]
 pub struct EncodedCode {
     pub number: u32,
     pub place: u32,

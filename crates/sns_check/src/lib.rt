@@ -1,4 +1,7 @@
 // Checking one factor.
+
+#![tactic(auto)]
+
 ghost use Rattle.sns_check.specs.CheckFactor.{CheckSays};
 
 use factor::Checked;

@@ -1,4 +1,7 @@
 // Decoding: the sixteen factors of a frame's fields, and its sixteen pulses alone.
+
+#![tactic(auto)]
+
 ghost use Rattle.sns_decode.specs.Decode.{DecodeSays, PulsesSays};
 
 use field_refusal::field_refusal;

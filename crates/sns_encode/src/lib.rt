@@ -1,4 +1,6 @@
 // Encoding: sixteen factors into a frame's fields and sixteen synthesised factors.
+#![tactic(auto)]
+
 ghost use Rattle.std.specs.Prelude.{◌≡◌, ◌<◌};
 ghost use Rattle.refusals.specs.declared.Answer.TheVariants.{Done};
 ghost use Rattle.sns_encode.specs.Encode.{encode_answer, encoded_as, refused_as, EncodeSays};
@@ -8,7 +10,7 @@ use frame_fields::Fields;
 use refusals::{Answer, Element};
 
 // What the encoder answers: the fields and their joint index, or no, with every other field 0.
-#[derive(Drop)]
+#[derive(Clone, Copy)]
 pub struct Encoded {
     pub answer: Answer,
     pub fields: Fields,

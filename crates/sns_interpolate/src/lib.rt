@@ -1,4 +1,7 @@
 // Interpolation: sixteen factors into bands.
+
+#![tactic(auto)]
+
 ghost use Rattle.sns_interpolate.specs.Interpolate.{InterpolateSays};
 
 use refusals::{Answer, Element};

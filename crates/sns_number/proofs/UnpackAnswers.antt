@@ -1,12 +1,18 @@
 -- The answer of unpacking, by the questions that led to it. Assumes nothing.
-use mathlib.Core.Path.{◌≡◌, ap}
+use mathlib.Core.Path.{◌≡◌, refl, ap, ◌∙◌}
+use mathlib.Core.List.{List}
+use lib.IntN.{ℤ}
+use lib.ListN.{length}
 use mathlib.Core.Bool.{true, false, not}
 use Prim.Native.Nat.{ℕ, ◌≤◌, ◌<◌}
 use borrow.Author.Tests.{le-leb, lt-leb, eq-eqb, ne_eqb}
 use Rattle.mpvq_offsets.specs.Offsets.{size_of}
-use Rattle.shapes.specs.Sets.{paired}
+use Rattle.shapes.specs.declared.PulseSet.{PulseSet}
+use Rattle.shapes.specs.declared.Found.TheVariants.{Set}
+use Rattle.shapes.specs.Sets.{paired, found_of}
+use Rattle.sns_number.proofs.Pairs.{found_set}
 use Rattle.refusals.specs.declared.Answer.TheVariants.{Done, No}
-use Rattle.sns_number.specs.Unpack.{unpack_questions, unpack_answer}
+use Rattle.sns_number.specs.Unpack.{unpack_questions, unpack_answer, UnpackSays}
 use Rattle.refusals.proofs.Answers.{given, not_given, none_left}
 
 module _ (n k s i len : ℕ) where
@@ -35,3 +41,9 @@ module _ (n k s i len : ℕ) where
       taken q r =
           not_given 10 0 _ _ (ap not p)
           (not_given 9 0 _ _ (ap not (eq-eqb len n l)) (not_given 4 0 _ _ (lt-leb 2 s q) (not_given 5 0 _ _ (lt-leb (size_of n k) i r) none_left)))
+
+-- the answer 4 by the set that was found, and the buffer as it was
+pub says_4 : (n k s i : ℕ) (old : List ℤ) (p : PulseSet) → Set p ≡ found_of n k → length old ≡ p.dimension → 2 ≤ s → UnpackSays n k s i old (No 4 0) old
+says_4 n k s i old p e l q =
+    let f = found_set n k p e in
+    (no_4 n k s i (length old) f.pair (l ∙ f.dimension) q, refl)

@@ -6,7 +6,7 @@ use numbering::mvpq_enum;
 use shapes::{Found, PulseSet};
 
 // An index and its lead sign, or no, with the number of the refusal and a place.
-#[derive(Drop)]
+#[derive(Clone, Copy)]
 pub enum Packed {
     At(u32, u32),
     No(u32, usize),

@@ -7,6 +7,7 @@ use shapes::{Found, PulseSet};
 
 // Fills `vector` with the vector of `dimension` places and `pulses` pulses that has this lead sign, 0 or 1, and this
 // index. Refused with 10 (the pair), 9 (the vector's length), 4 (the sign), 5 (the index), asked in this order.
+#[tactic(auto, using(crate::proofs::UnpackAnswers::says_4))]
 pub fn unpack(dimension: u32, pulses: u32, sign: u32, index: u32, vector: &mut [i32]) -> Answer
     ensures { UnpackSays dimension pulses sign index vector.old result vector.new }
 {

@@ -1,4 +1,7 @@
 // Shaping: each spectrum line times the linear gain of its band.
+
+#![tactic(auto)]
+
 ghost use Rattle.sns_shape.specs.Shape.{ShapeSays};
 
 use refusals::{Answer, Element};

@@ -1,7 +1,6 @@
 -- The public call's own statement, with its answer as numbers and its fields as they are.
 use mathlib.Core.Path.{◌≡◌, refl, ap, ◌∙◌, subst}
 use mathlib.Core.List.{List}
-use borrow.Author.Rules.{rules}
 use Prim.Native.Nat.{ℕ, ◌≤◌}
 use lib.ListN.{length}
 use lib.Ieee.{Float}
@@ -17,8 +16,7 @@ use Rattle.sns_c.specs.declared.Code.{Code}
 use Rattle.sns_c.specs.declared.EncodedCode.{EncodedCode}
 use Rattle.sns_c.specs.Answers.{IsCode, IsEncoded, EncodedSays}
 use Rattle.sns_c.proofs.Codes.{small}
-use Rattle.sns_c.proofs.lc3_sns_encode.Statement.{statement}
-use Rattle.sns_c.proofs.lc3_sns_encode.Tie as tie
+use Rattle.sns_c.proofs.lc3_sns_encode.Goals as goal
 
 answer_is : (a : Answer) (q : Quantized) → (encoded_as a q).answer ≡ a
 answer_is Done q = refl
@@ -62,25 +60,16 @@ says : (a : Answer) (q : Quantized) (e : Encoded) (c : Code) (old new : List Flo
     → (e ≡ encoded_as a q) × (new ≡ kept a q.stage2.scfq old) → IsCode e.answer c → EncodedSays a q old (code_of e c) new
 says a q e c old new (p, b) i = record { encoded = subst (λ (x : Encoded). IsEncoded x (code_of e c)) p (put e c i); buffer = b }
 
-encode-requires : tie.Need-encode-requires
-encode-requires c κs = search rules
-
 place_small : (factors : List Float) (len : ℕ) (q : Quantized) (e : Encoded) → e ≡ encoded_as (encode_answer factors len) q → place_of e.answer ≤ 400
 place_small factors len q e p = small (ap (λ (x : Encoded). x.answer) p ∙ answer_is (encode_answer factors len) q) (encode_place factors len)
 
-coded-requires : tie.Need-coded-requires
-coded-requires c κs =
-    let a = c.before.before.before.before.before.before.before.args in
-    place_small a.factors.now (length a.out.now) (quantized_of a.factors.now) _ c.before.before.before.encode.ensures.0
+pub coded-c-requires : goal.coded-c-requires
+coded-c-requires c =
+    let a = c.args in
+    place_small a.factors.now (length a.out.now) (quantized_of a.factors.now) _ c.encode-e.ensures.0
 
-same_length : tie.Need-same-length
-same_length c = search rules
-
-returns : tie.Need-returns
+pub returns : goal.returns
 unfolding code_of
 returns c =
-    let a = c.before.before.before.before.before.before.before.before.args in
-    says (encode_answer a.factors.now (length a.out.now)) (quantized_of a.factors.now) _ _ _ _ c.before.before.before.before.encode.ensures c.coded.ensures
-
-pub lc3_sns_encode_spec : {M : Type 1} → statement M
-lc3_sns_encode_spec = tie.close (tie.spec encode-requires coded-requires same_length returns)
+    let a = c.args in
+    says (encode_answer a.factors.now (length a.out.now)) (quantized_of a.factors.now) _ _ _ _ c.encode-e.ensures c.coded-c.ensures
