@@ -2,31 +2,34 @@
 // standard input is nine little-endian u32: the band count, low row, high row, shape, gain, sign A, sign B, index A and
 // index B. It writes how many were accepted, and the sum of all band values' bits modulo 2^32, which the Rust's own
 // decoder gives as well (tests/frames).
+#![tactic(auto)]
+
 use frame_fields::Fields;
-use libc::STDIN_FILENO;
-use program_input::{bits_of, word};
+use program_input::{bits_of, read_full, word};
 use program_text::print;
 use refusals::Answer;
+use std::io;
+use std::io::{BufReader, BufWriter, Read, Write};
 use std::num::{wrapping_add_u32, wrapping_add_u64};
 
 // The next number of the input, and 0 where it has ended.
-fn next() -> u32 {
+fn next(input: &mut impl Read) -> io::Result<u32> {
     let mut bytes = [0u8; 4];
-    io::read_full(STDIN_FILENO, &mut bytes);
-    word(&bytes, 0)
+    read_full(input, &mut bytes)?;
+    Ok(word(&bytes, 0))
 }
 
-fn fields() -> Fields {
-    Fields {
-        low_row: next(),
-        high_row: next(),
-        shape: next(),
-        gain: next(),
-        sign_a: next(),
-        sign_b: next(),
-        index_a: next(),
-        index_b: next(),
-    }
+fn fields(input: &mut impl Read) -> io::Result<Fields> {
+    Ok(Fields {
+        low_row: next(input)?,
+        high_row: next(input)?,
+        shape: next(input)?,
+        gain: next(input)?,
+        sign_a: next(input)?,
+        sign_b: next(input)?,
+        index_a: next(input)?,
+        index_b: next(input)?,
+    })
 }
 
 fn bits_added(sum: u32, values: &[f32]) -> u32 {
@@ -52,7 +55,7 @@ fn bands_added(sum: u32, factors: &[f32; 16], band_count: u32) -> u32 {
 }
 
 // How many frames there were and how many were accepted, and the sum.
-#[derive(Drop)]
+#[derive(Clone, Copy)]
 struct Seen {
     frames: u64,
     accepted: u64,
@@ -67,36 +70,39 @@ fn accepted_with(answer: Answer, accepted: u64) -> u64 {
 }
 
 // What was seen, with one frame more. A refused one leaves its factors 0, and adds nothing to the sum.
-fn frame(band_count: u32, s: Seen) -> Seen {
+fn frame(input: &mut impl Read, band_count: u32, s: Seen) -> io::Result<Seen> {
     let mut factors = [0.0f32; 16];
-    let answer = sns_decode::decode(fields(), &mut factors);
-    Seen {
+    let answer = sns_decode::decode(fields(input)?, &mut factors);
+    Ok(Seen {
         frames: wrapping_add_u64(s.frames, 1),
         accepted: accepted_with(answer, s.accepted),
         sum: bands_added(s.sum, &factors, band_count),
-    }
+    })
 }
 
 // Every frame until the input ends.
-fn all() -> Seen {
+fn all(input: &mut impl Read) -> io::Result<Seen> {
     let mut s = Seen {
         frames: 0,
         accepted: 0,
         sum: 0,
     };
-    let mut band_count = next();
+    let mut band_count = next(input)?;
     let mut turns = u64::MAX;
     while turns > 0 && band_count != 0 {
-        s = frame(band_count, s);
-        band_count = next();
+        s = frame(input, band_count, s)?;
+        band_count = next(input)?;
         turns -= 1;
     }
-    s
+    Ok(s)
 }
 
-fn main() {
-    let s = all();
-    print::pair(b"# accepted of #", s.accepted, s.frames);
-    print::hex(b", band values ", s.sum);
-    print::end_line();
+fn main(rt: HostRuntime) -> io::Result<()> {
+    let mut input = BufReader::new(rt.alloc(), rt.reader())?;
+    let s = all(&mut input)?;
+    let mut out = BufWriter::new(rt.alloc(), io::writer(&rt))?;
+    print::pair(&mut out, b"# accepted of #", s.accepted, s.frames)?;
+    print::hex(&mut out, b", band values ", s.sum)?;
+    print::end_line(&mut out)?;
+    out.flush()
 }

@@ -1,13 +1,17 @@
 // Runs the numbering through the public calls: every index of (6,1), both ends and a spread of the other three pairs,
 // there and back with both signs, and the corners that are refused. It writes what it found.
+#![tactic(auto)]
+
 use program_text::print;
 use refusals::Answer;
 use sns_number::pack::{Packed, pack};
 use sns_number::unpack::unpack;
+use std::io;
+use std::io::{BufWriter, Write};
 use std::num::{wrapping_add_u32, wrapping_add_u64, wrapping_sub_u32};
 
-fn pair(words: &[u8], first: u32, second: u32) {
-    print::pair(words, first as u64, second as u64);
+fn pair(out: &mut impl Write, words: &[u8], first: u32, second: u32) -> io::Result<()> {
+    print::pair(out, words, first as u64, second as u64)
 }
 
 // 1 where a sign and an index, unpacked and packed again, are the same.
@@ -36,15 +40,24 @@ fn came_back(dimension: u32, pulses: u32, first: u32, step: u32, count: u32, v: 
 }
 
 // Tries `count` indices with both signs, and says how many came back.
-fn tried(dimension: u32, pulses: u32, first: u32, step: u32, count: u32, v: &mut [i32]) {
+fn tried(
+    out: &mut impl Write,
+    dimension: u32,
+    pulses: u32,
+    first: u32,
+    step: u32,
+    count: u32,
+    v: &mut [i32],
+) -> io::Result<()> {
     let found = came_back(dimension, pulses, first, step, count, v);
-    pair(b"(#,#)", dimension, pulses);
-    pair(b" from # by #", first, step);
+    pair(out, b"(#,#)", dimension, pulses)?;
+    pair(out, b" from # by #", first, step)?;
     pair(
+        out,
         b": # of # there and back\n",
         found,
         wrapping_add_u32(count, count),
-    );
+    )
 }
 
 // How many elements are 7.
@@ -59,48 +72,73 @@ fn sevens(v: &[i32]) -> u64 {
 }
 
 // What unpack answers, and how many elements of a vector that held only 7 still do.
-fn unpacked(dimension: u32, pulses: u32, sign: u32, index: u32, v: &mut [i32]) {
-    pair(b"unpack (#,#)", dimension, pulses);
-    pair(b" sign # index #", sign, index);
+fn unpacked(
+    out: &mut impl Write,
+    dimension: u32,
+    pulses: u32,
+    sign: u32,
+    index: u32,
+    v: &mut [i32],
+) -> io::Result<()> {
+    pair(out, b"unpack (#,#)", dimension, pulses)?;
+    pair(out, b" sign # index #", sign, index)?;
     if let Answer::No(number, place) = unpack(dimension, pulses, sign, index, v) {
-        print::pair(b": no # at #", number as u64, place as u64);
+        print::pair(out, b": no # at #", number as u64, place as u64)?;
     }
-    print::pair(b", kept #\n", sevens(v), 0);
+    print::pair(out, b", kept #\n", sevens(v), 0)
 }
 
 // A pair of its size: the first index and sign that are refused, then a spread from index 0 on, and the last six indices.
-fn both_ends(dimension: u32, pulses: u32, size: u32, step: u32, count: u32, v: &mut [i32]) {
-    unpacked(dimension, pulses, 1, size, v);
-    unpacked(dimension, pulses, 2, 0, v);
-    tried(dimension, pulses, 0, step, count, v);
-    tried(dimension, pulses, wrapping_sub_u32(size, 6), 1, 6, v);
+fn both_ends(
+    out: &mut impl Write,
+    dimension: u32,
+    pulses: u32,
+    size: u32,
+    step: u32,
+    count: u32,
+    v: &mut [i32],
+) -> io::Result<()> {
+    unpacked(out, dimension, pulses, 1, size, v)?;
+    unpacked(out, dimension, pulses, 2, 0, v)?;
+    tried(out, dimension, pulses, 0, step, count, v)?;
+    tried(out, dimension, pulses, wrapping_sub_u32(size, 6), 1, 6, v)
 }
 
 // What pack answers.
-fn packed(words: &[u8], dimension: u32, pulses: u32, v: &[i32]) {
-    pair(b"pack (#,#)", dimension, pulses);
-    print::words(words);
+fn packed(
+    out: &mut impl Write,
+    words: &[u8],
+    dimension: u32,
+    pulses: u32,
+    v: &[i32],
+) -> io::Result<()> {
+    pair(out, b"pack (#,#)", dimension, pulses)?;
+    print::words(out, words)?;
     match pack(dimension, pulses, v) {
-        Packed::At(index, sign) => pair(b": index # sign #\n", index, sign),
-        Packed::No(number, place) => print::pair(b": no # at #\n", number as u64, place as u64),
+        Packed::At(index, sign) => pair(out, b": index # sign #\n", index, sign),
+        Packed::No(number, place) => {
+            print::pair(out, b": no # at #\n", number as u64, place as u64)
+        }
     }
 }
 
-fn packs() {
-    packed(b" zeros", 10, 10, &[0; 10]);
-    packed(b" least i32", 6, 1, &[-2147483648, 0, 0, 0, 0, 0]);
-    packed(b" least i32 everywhere", 16, 8, &[-2147483648; 16]);
-    packed(b" ten places", 6, 1, &[0; 10]);
-    packed(b" ten places", 10, 6, &[0; 10]);
-    packed(b" -1 at place 5", 6, 1, &[0, 0, 0, 0, 0, -1]);
+fn packs(out: &mut impl Write) -> io::Result<()> {
+    packed(out, b" zeros", 10, 10, &[0; 10])?;
+    packed(out, b" least i32", 6, 1, &[-2147483648, 0, 0, 0, 0, 0])?;
+    packed(out, b" least i32 everywhere", 16, 8, &[-2147483648; 16])?;
+    packed(out, b" ten places", 6, 1, &[0; 10])?;
+    packed(out, b" ten places", 10, 6, &[0; 10])?;
+    packed(out, b" -1 at place 5", 6, 1, &[0, 0, 0, 0, 0, -1])
 }
 
-fn main() {
-    both_ends(6, 1, 6, 1, 6, &mut [7; 6]);
-    both_ends(10, 10, 2390004, 601, 3977, &mut [7; 10]);
-    both_ends(16, 8, 15158272, 3793, 3997, &mut [7; 16]);
-    both_ends(16, 6, 774912, 193, 4016, &mut [7; 16]);
-    unpacked(6, 1, 2, 6, &mut [7; 10]);
-    unpacked(16, 10, 2, 6, &mut [7; 10]);
-    packs();
+fn main(rt: HostRuntime) -> io::Result<()> {
+    let mut out = BufWriter::new(rt.alloc(), io::writer(&rt))?;
+    both_ends(&mut out, 6, 1, 6, 1, 6, &mut [7; 6])?;
+    both_ends(&mut out, 10, 10, 2390004, 601, 3977, &mut [7; 10])?;
+    both_ends(&mut out, 16, 8, 15158272, 3793, 3997, &mut [7; 16])?;
+    both_ends(&mut out, 16, 6, 774912, 193, 4016, &mut [7; 16])?;
+    unpacked(&mut out, 6, 1, 2, 6, &mut [7; 10])?;
+    unpacked(&mut out, 16, 10, 2, 6, &mut [7; 10])?;
+    packs(&mut out)?;
+    out.flush()
 }

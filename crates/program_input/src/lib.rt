@@ -1,7 +1,13 @@
 // Bytes as numbers: what the programs read. Public for the programs and the crates that they share. Each function is proved
 // to run safely on every input; what comes of it is held to the Rust's answers by the programs' expected output
 // (tests/frames).
-ghost use Rattle.std.specs.Prelude.{◌+◌, ◌*◌, ◌≤◌, length};
+#![tactic(auto)]
+
+ghost use Rattle.std.specs.Prelude.{ℕ, ◌+◌, ◌*◌, ◌<◌, ◌≤◌, length, take, IfOk, OnErr};
+ghost use Rattle.std.specs.Io.KnownBytes.{Consumes, IsAtEnd};
+
+use std::io;
+use std::io::Read;
 
 // The word of the four bytes from `at` on, the lowest first: each goes in at the top, and moves down as the next ones come.
 pub fn word(bytes: &[u8], at: usize) -> u32
@@ -50,4 +56,23 @@ pub fn record(bytes: &[u8], at: usize) -> [f32; 16]
         n += 1;
     }
     factors
+}
+
+// Reads until `buf` is full or the input ends, and answers how many bytes it put at the start of `buf`. It fails only with the
+// error of a read; at the start of `buf` stands then what was read before it.
+pub fn read_full<R: Read>(input: &mut R, buf: &mut [u8]) -> io::Result<usize>
+    ensures bound { IfOk result (λ n. n ≤ length buf.new) }
+    ensures bytes { IfOk result (λ n. Consumes (R.remaining input.old) (R.remaining input.new) (take n buf.new)) }
+    ensures end { IfOk result (λ n. n < length buf.new → IsAtEnd (R.remaining input.new)) }
+    ensures err { OnErr result ((n : ℕ) × (n ≤ length buf.new) × Consumes (R.remaining input.old) (R.remaining input.new) (take n buf.new)) }
+{
+    let mut done = 0usize;
+    while done < buf.len() {
+        let got = input.read(&mut buf[done..])?;
+        if got == 0 {
+            break;
+        }
+        done += got;
+    }
+    Ok(done)
 }

@@ -4,9 +4,11 @@ ghost use Rattle.std.specs.Prelude.{◌+◌, ◌≤◌, length};
 use program_text::text::Block;
 use program_text::{print, text};
 use refusals::Answer;
+use std::io;
+use std::io::Write;
 
 // A record's answer; low row, high row, shape, gain, sign A, sign B, joint index, index A, index B; the sixteen factors.
-#[derive(Drop)]
+#[derive(Clone, Copy)]
 pub struct Quantized {
     pub answer: Answer,
     pub numbers: [u32; 9],
@@ -49,8 +51,15 @@ pub fn refused_of(q: Quantized) -> u64 {
     }
 }
 
-// Puts a record's line. Factors by their bits are written out at once, after the text before them.
-pub fn put_line(block: &mut Block, at: usize, q: Quantized, by_bits: bool) -> usize {
+// Puts a record's line, and answers where the text ends afterwards. Factors by their bits are written out at once, after the
+// text before them. It fails only with the error of a write.
+pub fn put_line(
+    out: &mut impl Write,
+    block: &mut Block,
+    at: usize,
+    q: Quantized,
+    by_bits: bool,
+) -> io::Result<usize> {
     let answer = q.answer;
     match answer {
         Answer::Done => {
@@ -59,15 +68,19 @@ pub fn put_line(block: &mut Block, at: usize, q: Quantized, by_bits: bool) -> us
             let end = text::put_numbers(block, at, numbers);
             let bar = text::put(block, end, b'|');
             if by_bits {
-                text::write(block, bar);
-                print::floats(&factors);
-                return 0;
+                text::write(out, block, bar)?;
+                print::floats(out, &factors)?;
+                return Ok(0);
             }
             let last = text::put_floats(block, bar, factors);
-            text::put(block, last, b'\n')
+            Ok(text::put(block, last, b'\n'))
         }
-        Answer::No(number, place) => {
-            text::put_pair(block, at, b"refused # at #\n", number as u64, place as u64)
-        }
+        Answer::No(number, place) => Ok(text::put_pair(
+            block,
+            at,
+            b"refused # at #\n",
+            number as u64,
+            place as u64,
+        )),
     }
 }

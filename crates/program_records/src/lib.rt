@@ -3,5 +3,7 @@
 // Rust's answers by the programs' expected output (tests/frames).
 //   frames   one record: quantized, and its line
 //   run      every record until the input ends, and the summary
+#![tactic(auto)]
+
 pub mod frames;
 pub mod run;

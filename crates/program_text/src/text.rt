@@ -1,6 +1,10 @@
 // Text into a block. `at` is where the text ends; each function answers where it ends afterwards. A full block takes no
 // more, so no call needs a promise.
+ghost use Rattle.std.specs.Prelude.{◌≤◌};
+
 use crate::print;
+use std::io;
+use std::io::Write;
 
 // Room for 512 bytes of each of 256 records.
 pub type Block = [u8; 131072];
@@ -13,11 +17,25 @@ pub fn put(block: &mut Block, at: usize, byte: u8) -> usize {
     at
 }
 
+// Writes a number's digits so that they end where `digits` does, and answers where they start. An u64 has 20 at most.
+fn write_decimal(number: u64, digits: &mut [u8; 20]) -> usize
+    ensures { result ≤ 20 }
+{
+    let mut start = 20usize;
+    let mut rest = number;
+    while start > 0 && (rest > 0 || start == 20) {
+        start -= 1;
+        digits[start] = 48 + (rest % 10) as u8;
+        rest /= 10;
+    }
+    start
+}
+
 // A whole number.
 fn put_decimal(block: &mut Block, from: usize, number: u64) -> usize {
     let mut digits = [0u8; 20];
-    let count = io::decimal(number, &mut digits);
-    let text = &digits[..count];
+    let start = write_decimal(number, &mut digits);
+    let text = &digits[start..];
     let mut at = from;
     let mut n = 0usize;
     while n < text.len() {
@@ -106,10 +124,11 @@ pub fn put_floats(block: &mut Block, from: usize, row: [f32; 16]) -> usize {
     at
 }
 
-// Writes the text out.
-pub fn write(block: &Block, at: usize) {
+// Writes the text out. It fails only with the error of a write.
+pub fn write(out: &mut impl Write, block: &Block, at: usize) -> io::Result<()> {
     let text: &[u8] = block;
     if at <= text.len() {
-        print::words(&text[0..at]);
+        print::words(out, &text[0..at])?;
     }
+    Ok(())
 }

@@ -5,10 +5,9 @@ use Prim.Native.Nat.{ℕ, ◌%◌, ◌/◌, ◌≤◌}
 use native.Mathlib.Omega.{arith}
 use lib.Dec.{T, eqb}
 use lib.Ieee.{nan_bits}
-use borrow.Author.Tests.{eqb-true, eqb-false}
 use borrow.Author.Rules.{rules}
-use Rattle.program_input.proofs.float_of.Statement.{statement}
-use Rattle.program_input.proofs.float_of.Tie as tie
+use borrow.Author.Tests.{eqb-true, eqb-false}
+use Rattle.program_input.proofs.float_of.Goals as goal
 
 not_both : (a b : Bool) → (a ≡ true → b ≡ false → ⊥) → T (not (a && not b))
 not_both true true h = tt
@@ -20,14 +19,6 @@ no_nan bits h =
     not_both (eqb (bits % 2147483648 / 8388608) 255) (eqb (bits % 8388608) 0)
     (λ ones digits. eqb-false (bits % 8388608) 0 digits (omega (arith, eqb-true (bits % 2147483648 / 8388608) 255 ones)))
 
-from_bits : tie.Need-float-from-bits-result
+pub float_from_bits-result : goal.float_from_bits-result
 unfolding nan_bits
-from_bits c = no_nan _ c.if1.false
-
-pub float_of_spec : {M : Type 1} → statement M
-float_of_spec =
-    tie.close
-    (tie.spec
-    (λ c. search rules)
-    from_bits
-    (λ c. search rules))
+float_from_bits-result c = no_nan c.args.bits (search rules)
