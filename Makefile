@@ -3,9 +3,9 @@
 
 help:
 	@echo 'make run       build the program quantize and run it on the recorded frames; it ends with how many there were'
-	@echo 'make test      the gate: format, every proof, must-fail edit and program from nothing, then the Rust comparisons on what was proved'
+	@echo 'make test      the gate: format, every proof, must-fail edit and program, then the Rust comparisons on what was proved'
 	@echo 'make check     prove what changed since the last time, and run the programs: the quick loop'
-	@echo 'make staticlib the library for C and Rust: target/staticlib/libsns_c.a, with include/lc3_sns.h'
+	@echo 'make staticlib the library for C and Rust: crates/sns_c/out/libsns_c.a, with include/lc3_sns.h'
 	@echo 'make bindings  the library called from C and from bindings/rust (see tests/bindings.sh)'
 	@echo 'make compare   the port beside the Rust, bit for bit: encoder, numbering, decoder, shaping; and refusals by the table'
 	@echo 'make bench     encode, pack and unpack timed beside the Rust, then decode, interpolate and shape; BEFORE=COMMIT adds the calls of that commit but pack'
@@ -17,19 +17,16 @@ help:
 run: kit
 	@mkdir -p target
 	@echo 'proving and building quantize: some minutes the first time, then seconds'
-	@{ rt check quantize 2>&1; echo $$? >target/run.status; } | tee target/run.log | sed -n '/unchanged since/d; s/^rt: \(.* proved .*\)/  \1/p'
-	@[ "$$(cat target/run.status)" = 0 ] || { tail -n 20 target/run.log; exit 1; }
-	sh tests/run_program.sh quantize <crates/quantize/stdin >target/quantize.txt
+	@cd crates/quantize && rt run <stdin >../../target/quantize.txt 2>../../target/run.log || { tail -n 20 ../../target/run.log; exit 1; }
 	@echo 'low row, high row, shape, gain, sign A, sign B, joint index, index A, index B | the sixteen factors; the last records:'
 	@tail -n 14 target/quantize.txt
 	@echo 'every line: target/quantize.txt'
 
 test: kit
-	rt fmt --check
 	sh tests/gate.sh
 
 check: kit
-	rt check
+	rt all test
 
 compare: kit
 	tests/rust/beside.sh stage1_bench tests/rust/stage1.rs
@@ -41,13 +38,13 @@ bench: kit
 	bench/run.sh sns_c bench/decoder.rs decode 'interpolate, 64 bands' 'shape, 48 kHz, 10 ms'
 
 staticlib: kit
-	rt staticlib sns_c
+	sh tests/archive.sh sns_c
 
 bindings: kit
 	sh tests/bindings.sh
 
 format: kit
-	rt fmt
+	for crate in crates/*/; do (cd "$$crate" && rt fmt) || exit 1; done
 
 tables: kit
 	sh tests/tables/record.sh

@@ -14,9 +14,10 @@ for tool in rt cc cargo; do
     [ "${1:-}" = --made ] && [ "${CI:-}" != true ] && exit 0
     exit 1
 done
-if [ "${1:-}" != --made ] || [ ! -f target/staticlib/libsns_c.a ]; then rt staticlib sns_c; fi
+archive=crates/sns_c/out/libsns_c.a
+if [ "${1:-}" != --made ] || [ ! -f $archive ]; then sh tests/archive.sh sns_c; fi
 made=$(mktemp -d)
 trap 'rm -rf "$made"' EXIT
-cc -std=c11 -Wall -Wextra -Werror -Iinclude tests/c/calls.c target/staticlib/libsns_c.a -lm -o "$made/calls"
+cc -std=c11 -Wall -Wextra -Werror -Iinclude tests/c/calls.c $archive -lm -o "$made/calls"
 "$made/calls"
 CARGO_TARGET_DIR="$made/rust" cargo test --offline --manifest-path bindings/rust/Cargo.toml

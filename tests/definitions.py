@@ -9,7 +9,7 @@ CALLS = ["CheckFactor", "Encode", "Decode", "Interpolate", "Shape", "Unpack", "P
 
 
 def imports(file):
-    for crate, name in re.findall(r"^use Rattle·([a-z0-9_]+)(?:·specs)?\.specs\.([A-Za-z0-9]+)", file.read_text(), re.M):
+    for crate, name in re.findall(r"^use Rattle\.([a-z0-9_]+)\.specs\.([A-Za-z0-9]+)", file.read_text(), re.M):
         found = CRATES / crate / "specs" / f"{name}.antt"
         if found.exists():
             yield found

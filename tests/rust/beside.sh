@@ -1,14 +1,13 @@
 #!/bin/sh
-# tests/rust/beside.sh CRATE DRIVER.rs..: builds the Rust, the native archive of CRATE and each driver, which links both, all in
+# tests/rust/beside.sh CRATE DRIVER.rs..: builds the Rust, the archive of CRATE and each driver, which links both, all in
 # target/rust, and runs the drivers one after another. A driver of `sns_c` calls the port through bindings/rust. With BEFORE=COMMIT
 # it can call the public archive of that commit too (bench/before.sh).
 set -eu
 cd "$(dirname "$0")/../.."
 crate=$1
 shift
-# An answer of 44 bytes, the encoder's, does not cross into an archive that native.sh made for another processor.
-if [ "$crate" = sns_c ] && [ "$(uname -m)" != x86_64 ]; then
-    echo "$*: skipped. The public archive is x86-64 code, and this processor ($(uname -m)) can't run it."
+if [ "$(uname -m)" != x86_64 ]; then
+    echo "$*: skipped. The archive is x86-64 code, and this processor ($(uname -m)) can't run it."
     exit 0
 fi
 tests/rust/build.sh
