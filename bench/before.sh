@@ -16,7 +16,7 @@ trap 'rm -rf "$clone"' EXIT
 git clone -q . "$clone/src"
 git -C "$clone/src" checkout -q "$commit"
 echo "before: proving and building $1, some minutes"
-(cd "$clone/src/crates/sns_c" && rt lib) >target/before/log 2>&1 || { tail -5 target/before/log >&2; exit 1; }
+(cd "$clone/src/crates/sns_c" && rt lib --cpu x86-64) >target/before/log 2>&1 || { tail -5 target/before/log >&2; exit 1; }
 archive=$clone/src/crates/sns_c/out/libsns_c.a
 # shellcheck disable=SC2046
 objcopy --set-section-alignment '.text.*=64' \
