@@ -3,7 +3,7 @@
 
 usage: python3 tools/snake_names.py [--list] [FOLDER]
 
-Run once, after /opt/rattle/port/port.py and before anything is mended by hand: it reads crates/ below FOLDER (the current folder, if none is named)
+Run once, after the kit's port.py and before anything is mended by hand: it reads crates/ below FOLDER (the current folder, if none is named)
 and rewrites its .antt files and the clauses of its .rt files. A name is one that these files declare at the left margin, or as a field or a constructor,
 and that begins with a small letter and has a capital or a dash in it. Functions of src/, exported names, strings, variables, goals that rattle names
 and the names of the libraries stay. It stops, and writes nothing, where two names would fall together.
