@@ -1,4 +1,5 @@
 // As `quantize`, with each factor by its bits, so that the expected output holds it to the Rust's answers bit for bit.
+// It ends with an error where a read or a write fails or there is no memory for a buffer; what was written before stands.
 #![tactic(auto)]
 
 use std::io;

@@ -1,5 +1,6 @@
 // Runs the decoder's side through the public calls, at its corners, and prints what they compute, each f32 by its bit
 // pattern.
+// It ends with an error where a write fails or there is no memory for the buffer; what was written before stands.
 #![tactic(auto)]
 
 use factor::Checked;

@@ -2,6 +2,7 @@
 // standard input is nine little-endian u32: the band count, low row, high row, shape, gain, sign A, sign B, index A and
 // index B. It writes how many were accepted, and the sum of all band values' bits modulo 2^32, which the Rust's own
 // decoder gives as well (tests/frames).
+// It ends with an error where a read or a write fails or there is no memory for a buffer; what was written before stands.
 #![tactic(auto)]
 
 use frame_fields::Fields;

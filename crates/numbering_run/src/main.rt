@@ -1,5 +1,6 @@
 // Runs the numbering through the public calls: every index of (6,1), both ends and a spread of the other three pairs,
 // there and back with both signs, and the corners that are refused. It writes what it found.
+// It ends with an error where a write fails or there is no memory for the buffer; what was written before stands.
 #![tactic(auto)]
 
 use program_text::print;

@@ -1,5 +1,6 @@
 // Writes every table, a row a line: floats by their bits, whole numbers in decimal. The file stdout beside src/ is what the
 // Rust's own tables give (tests/tables/record.sh), so the two are equal bit for bit.
+// It ends with an error where a write fails or there is no memory for the buffer; what was written before stands.
 #![tactic(auto)]
 
 ghost use Rattle.std.specs.Prelude.{◌<◌};
