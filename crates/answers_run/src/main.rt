@@ -2,8 +2,9 @@
 // It ends with an error where a read or a write fails or there is no memory for a buffer; what was written before stands.
 #![tactic(auto)]
 
+use program_text::Bits;
 use std::io;
 
 fn main(rt: HostRuntime) -> io::Result<()> {
-    program_records::run::run(&rt, true)
+    program_records::run::run(&rt, Bits)
 }

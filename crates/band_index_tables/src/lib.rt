@@ -1,4 +1,5 @@
-// The band limits, a table for each rate and frame length.
+// The band limits, a table for each rate and frame length: a rate is its index and a frame length a flag, true for 10 ms, as
+// `limits_of` has them and C hands them in.
 
 #![tactic(auto)]
 
@@ -71,21 +72,16 @@ pub fn band_limits(rate: usize, ten_ms: bool) -> [usize; 65]
     requires { rate < 5 }
     ensures { result ≡ handed_out (limits_of rate ten_ms) }
 {
-    if ten_ms {
-        match rate {
-            0 => I_8000_10MS,
-            1 => I_16000_10MS,
-            2 => I_24000_10MS,
-            3 => I_32000_10MS,
-            _ => I_48000_10MS,
-        }
-    } else {
-        match rate {
-            0 => I_8000_7P5MS,
-            1 => I_16000_7P5MS,
-            2 => I_24000_7P5MS,
-            3 => I_32000_7P5MS,
-            _ => I_48000_7P5MS,
-        }
+    match (rate, ten_ms) {
+        (0, true) => I_8000_10MS,
+        (1, true) => I_16000_10MS,
+        (2, true) => I_24000_10MS,
+        (3, true) => I_32000_10MS,
+        (_, true) => I_48000_10MS,
+        (0, false) => I_8000_7P5MS,
+        (1, false) => I_16000_7P5MS,
+        (2, false) => I_24000_7P5MS,
+        (3, false) => I_32000_7P5MS,
+        (_, false) => I_48000_7P5MS,
     }
 }

@@ -3,16 +3,15 @@
 // definition.
 #![tactic(auto)]
 
-ghost use Rattle.std.specs.Prelude.{◌≡◌, [], ◌-◌, ◌<◌, get_or};
-ghost use Rattle.std.specs.Float.{nan};
-ghost use Rattle.float_laws.specs.Scan.{least_to};
+ghost use Rattle.std.specs.Prelude.{◌≡◌, ◌<◌};
 ghost use Rattle.list_laws.specs.ListOf.{list_of};
-ghost use Rattle.roots.specs.Root.{root_table};
-ghost use Rattle.pulse_length.specs.Length.{Sixteen};
 ghost use Rattle.candidates.specs.Candidate.{candidate_of, distortion_of};
 ghost use Rattle.candidates.specs.Scan.{choices, choice_at, gain_of, distortion_at, winner_of};
 
+use pulse_length::Pulses;
+use roots::Roots;
 use shapes::{OutlierFar, OutlierNear, RegularA, RegularLf};
+use std::array;
 
 // How many choices are scanned: every gain of each shape.
 pub const CHOICES: usize = RegularA::GAINS
@@ -20,7 +19,8 @@ pub const CHOICES: usize = RegularA::GAINS
     + OutlierNear::GAINS
     + OutlierFar::GAINS;
 
-// A shape and the number of one of its gains.
+// A shape and the number of one of its gains. A shape is its number, 0 to 3: the theorems (`AllTried`, `NoneBelow`) and
+// the C interface speak of it, and the rows of the four shapes are indexed by it.
 #[derive(Clone, Copy)]
 pub struct Choice {
     pub shape: usize,
@@ -28,19 +28,12 @@ pub struct Choice {
 }
 
 // A shape's pulses, with signs, divided by their length.
-pub fn normalize_candidate(roots: &[f32; 101], y: &[i32; 16]) -> [f32; 16]
-    requires { (roots.now ≡ root_table) × Sixteen y.now }
-    ensures { result ≡ candidate_of y.now }
+pub fn normalize_candidate(roots: &Roots, y: &Pulses) -> [f32; 16]
+    ensures { result ≡ candidate_of y.now.y }
 {
-    let length = pulse_length::length(roots, y);
-    let x = pulse_length::floats(y);
-    let mut xq = [0.0f32; 16];
-    let mut n = 0usize;
-    while n < 16 {
-        xq[n] = x[n] / length;
-        n += 1;
-    }
-    xq
+    let length = y.length(roots);
+    let x = y.floats();
+    array::from_fn(|n| x[n] / length)
 }
 
 // The k-th choice: shapes upward, and of each its gains upward.
@@ -63,31 +56,24 @@ pub fn choice_at(k: usize) -> Choice
     Choice { shape: 3, gain: k }
 }
 
-// The gain of each choice.
+// The gain of each choice, beside `choice_at`: the scan reads one by one what is looked up here once.
 pub fn scanned_gains() -> [f32; CHOICES]
     ensures { result ≡ list_of choices gain_of }
 {
-    let mut gains = [0.0f32; CHOICES];
-    let mut k = 0usize;
-    while k < CHOICES {
+    array::from_fn(|k| {
         let c = choice_at(k);
-        gains[k] = shapes::adj_gain(c.shape, c.gain);
-        k += 1;
-    }
-    gains
+        shapes::adj_gain(c.shape, c.gain)
+    })
 }
 
 // The distortion of a shape's candidate under a gain.
-fn distortion(t: &[f32; 16], xq: &[[f32; 16]; 4], shape: usize, gain: f32) -> f32
-    requires { shape < 4 }
-    ensures { result ≡ distortion_of t.now (get_or xq.now shape []) gain }
+fn distortion(t: &[f32; 16], xq: &[f32; 16], gain: f32) -> f32
+    ensures { result ≡ distortion_of t.now xq.now gain }
 {
     let mut d_mse = 0.0f32;
-    let mut n = 0usize;
-    while n < 16 {
-        let diff = t[n] - gain * xq[shape][n];
-        d_mse = d_mse + diff * diff;
-        n += 1;
+    for (x, q) in t.iter().zip(xq) {
+        let diff = *x - gain * *q;
+        d_mse += diff * diff;
     }
     d_mse
 }
@@ -97,38 +83,16 @@ fn distortions(t: &[f32; 16], xq: &[[f32; 16]; 4], gains: &[f32; CHOICES]) -> [f
     requires { gains.now ≡ list_of choices gain_of }
     ensures { result ≡ list_of choices (distortion_at t.now xq.now) }
 {
-    let mut d_mse = [0.0f32; CHOICES];
-    let mut k = 0usize;
-    while k < CHOICES {
+    array::from_fn(|k| {
         let c = choice_at(k);
-        d_mse[k] = distortion(t, xq, c.shape, gains[k]);
-        k += 1;
-    }
-    d_mse
+        distortion(t, &xq[c.shape], gains[k])
+    })
 }
 
-// The first strictly smallest.
-fn first_least(d_mse: &[f32; CHOICES]) -> usize
-    ensures { result ≡ least_to (λ i. get_or d_mse.now i nan) (choices - 1) }
-{
-    let mut best = 0usize;
-    let mut d_mse_min = d_mse[0];
-    let mut k = 0usize;
-    while k < CHOICES - 1 {
-        k += 1;
-        if d_mse[k] < d_mse_min {
-            best = k;
-            d_mse_min = d_mse[k];
-        }
-    }
-    best
-}
-
-// The choice that wins.
+// The choice that wins: the first strictly smallest.
 pub fn winner(t: &[f32; 16], xq: &[[f32; 16]; 4], gains: &[f32; CHOICES]) -> usize
     requires { gains.now ≡ list_of choices gain_of }
     ensures { result ≡ winner_of t.now xq.now }
 {
-    let d_mse = distortions(t, xq, gains);
-    first_least(&d_mse)
+    first_least::first_least(&distortions(t, xq, gains))
 }

@@ -18,6 +18,7 @@ pub struct Left {
 // The greatest of columns 0 to 7 whose offset is at most the index, and the rest of the index, by halving: it is one of
 // `width` columns, from `low` on, and a look at the middle leaves one half of them. `offset` is that of `low`: column 0,
 // where it starts, has offset 0. Eight columns take three looks, whatever the index, and none needs a branch.
+// A `while`, since it halves a width and counts nothing.
 fn column_halved(n: usize, ind: u32) -> Left
     requires { n < 16 }
     ensures { (result.pulses ≡ column_of n 7 ind) × (result.rest ≡ ind - offset_of n (column_of n 7 ind)) }

@@ -3,30 +3,19 @@
 #![tactic(auto)]
 
 ghost use Rattle.std.specs.Prelude.{◌≡◌, ◌<◌};
-ghost use Rattle.frame_fields.specs.Accepted.{Accepted, numbers_in};
+ghost use Rattle.frame_fields.specs.Accepted.{Accepted};
 ghost use Rattle.decoder.specs.Decoded.{field_pulses, field_factors};
 
 use frame_fields::{Fields, Numbers};
-use sns_tables::spec_noise_shape_quant_tables as tables;
-
-// The numbers among the fields.
-fn numbers(f: Fields) -> Numbers
-    ensures { result ≡ numbers_in f }
-{
-    Numbers {
-        sign_a: f.sign_a,
-        sign_b: f.sign_b,
-        index_a: f.index_a,
-        index_b: f.index_b,
-    }
-}
+use roots::Roots;
+use sns_tables::codebooks::Codebooks;
 
 // The sixteen pulses.
 pub fn pulses(f: Fields) -> [i32; 16]
     requires { f.shape < 4 }
     ensures { result ≡ field_pulses f }
 {
-    shape_numbers::pulses(f.shape as usize, numbers(f))
+    shape_numbers::pulses(f.shape as usize, Numbers::from(f))
 }
 
 // The sixteen factors.
@@ -35,12 +24,10 @@ pub fn factors(f: Fields) -> [f32; 16]
     ensures { result ≡ field_factors f }
 {
     let y = pulses(f);
-    let lfcb = tables::lfcb();
-    let hfcb = tables::hfcb();
-    let roots = roots::roots();
+    let codebooks = Codebooks::new();
+    let roots = Roots::new();
     synthesis::factors(
-        &lfcb,
-        &hfcb,
+        &codebooks,
         &roots,
         f.low_row as usize,
         f.high_row as usize,

@@ -3,102 +3,150 @@
 // It ends with an error where a write fails or there is no memory for the buffer; what was written before stands.
 #![tactic(auto)]
 
+ghost use Rattle.std.specs.Prelude.{◌≤◌, length};
+
 use factor::Checked;
 use frame_fields::Fields;
-use program_input::{bits_of, float_of};
-use program_text::print;
+use program_input::float_of;
+use program_text::{Bits, line};
+use refusals::{Refusal, Refused};
+use std::fmt::Display;
 use std::io;
 use std::io::{BufWriter, Write};
 
-// A factor by its bits, and its answer.
-fn check(out: &mut impl Write, bits: u32) -> io::Result<()> {
-    print::hex(out, b"check ", bits)?;
-    match sns_check::check_factor(float_of(bits)) {
-        Checked::Within(x) => print::hex(out, b" taken ", bits_of(x)),
-        Checked::TooFar(x) => print::hex(out, b" no 8 ", bits_of(x)),
-        Checked::NotFinite => print::words(out, b" no 7"),
-    }?;
-    print::end_line(out)
-}
+// 64.0 and its neighbours on both sides, zeros and the infinities.
+const CHECKED: [u32; 9] = [
+    0x4280_0000,
+    0x4280_0001,
+    0x427f_ffff,
+    0xc280_0000,
+    0xc280_0001,
+    0x0000_0000,
+    0x8000_0000,
+    0x7f80_0000,
+    0xff80_0000,
+];
 
-// A NaN has no bits of its own.
-fn check_nan(out: &mut impl Write) -> io::Result<()> {
-    match sns_check::check_factor(0.0 / 0.0) {
-        Checked::NotFinite => print::words(out, b"check nan no 7\n"),
-        _ => print::end_line(out),
+// Frames of each shape, with its first and last gain and both ends of the indices.
+const FRAMES: [Fields; 5] = [
+    Fields {
+        low_row: 0,
+        high_row: 0,
+        shape: 0,
+        gain: 0,
+        sign_a: 0,
+        sign_b: 0,
+        index_a: 0,
+        index_b: 0,
+    },
+    Fields {
+        low_row: 31,
+        high_row: 31,
+        shape: 0,
+        gain: 1,
+        sign_a: 1,
+        sign_b: 1,
+        index_a: 2390003,
+        index_b: 5,
+    },
+    Fields {
+        low_row: 17,
+        high_row: 5,
+        shape: 1,
+        gain: 3,
+        sign_a: 0,
+        sign_b: 0,
+        index_a: 1,
+        index_b: 0,
+    },
+    Fields {
+        low_row: 1,
+        high_row: 2,
+        shape: 2,
+        gain: 3,
+        sign_a: 1,
+        sign_b: 0,
+        index_a: 15158271,
+        index_b: 0,
+    },
+    Fields {
+        low_row: 3,
+        high_row: 4,
+        shape: 3,
+        gain: 7,
+        sign_a: 0,
+        sign_b: 0,
+        index_a: 774911,
+        index_b: 0,
+    },
+];
+
+// What a call leaves in a row of floats, by their bits, behind words for it; or its refusal.
+fn print_row(
+    out: &mut impl Write,
+    words: impl Display + Drop,
+    answer: Result<(), Refused>,
+    row: &[f32],
+) -> io::Result<()> {
+    write!(out, "{words}")?;
+    match answer {
+        Ok(()) => line(out, row.iter().map(|x| Bits(*x))),
+        Err(refused) => writeln!(out, " no {refused}"),
     }
 }
 
-// 64.0 and its neighbours on both sides, zeros, the infinities and a NaN.
-fn checks(out: &mut impl Write) -> io::Result<()> {
-    check(out, 0x4280_0000)?;
-    check(out, 0x4280_0001)?;
-    check(out, 0x427f_ffff)?;
-    check(out, 0xc280_0000)?;
-    check(out, 0xc280_0001)?;
-    check(out, 0x0000_0000)?;
-    check(out, 0x8000_0000)?;
-    check(out, 0x7f80_0000)?;
-    check(out, 0xff80_0000)?;
-    check_nan(out)
+// What the check of a factor answers.
+fn check(out: &mut impl Write, name: impl Display + Drop, x: f32) -> io::Result<()> {
+    write!(out, "check {name} ")?;
+    match sns_check::check_factor(x) {
+        Checked::Within(x) => writeln!(out, "taken {}", Bits(x)),
+        Checked::TooFar(x) => writeln!(out, "no {} {}", Refusal::TooFar.number(), Bits(x)),
+        Checked::NotFinite => writeln!(out, "no {}", Refusal::NotFinite.number()),
+    }
 }
 
-// Sixteen factors as 64 bands and as 60.
-fn bands(out: &mut impl Write, factors: &[f32; 16]) -> io::Result<()> {
-    let mut wide = [0.0f32; 64];
-    sns_interpolate::interpolate(factors, 64, &mut wide);
-    print::words(out, b"bands 64")?;
-    print::floats(out, &wide)?;
-    let mut narrow = [0.0f32; 60];
-    sns_interpolate::interpolate(factors, 60, &mut narrow);
-    print::words(out, b"bands 60")?;
-    print::floats(out, &narrow)
+// A NaN has no bits of its own.
+fn checks(out: &mut impl Write) -> io::Result<()> {
+    for bits in CHECKED {
+        let x = float_of(bits);
+        check(out, Bits(x), x)?;
+    }
+    check(out, "nan", f32::NAN)
+}
+
+// Sixteen factors as so many bands.
+fn print_bands<const N: usize>(out: &mut impl Write, factors: &[f32; 16]) -> io::Result<()>
+    requires { N ≤ 64 }
+{
+    let mut bands = [0.0f32; N];
+    let answer = sns_interpolate::interpolate(factors, N as u32, &mut bands);
+    print_row(out, format_args!("bands {N}"), answer, &bands)
+}
+
+fn print_both(out: &mut impl Write, factors: &[f32; 16]) -> io::Result<()> {
+    print_bands::<64>(out, factors)?;
+    print_bands::<60>(out, factors)
 }
 
 // Factors 0, 8, 8, ..., and factors 14 and 15 of 0 and 8.
 fn interpolations(out: &mut impl Write) -> io::Result<()> {
     let mut first = [8.0f32; 16];
     first[0] = 0.0;
-    bands(out, &first)?;
+    print_both(out, &first)?;
     let mut last = [0.0f32; 16];
     last[15] = 8.0;
-    bands(out, &last)
+    print_both(out, &last)
 }
 
-// The bands of a frame.
-fn decode(
-    out: &mut impl Write,
-    low_row: u32,
-    high_row: u32,
-    shape: u32,
-    gain: u32,
-    sign_a: u32,
-    sign_b: u32,
-    index_a: u32,
-    index_b: u32,
-) -> io::Result<()> {
-    let frame = Fields {
-        low_row,
-        high_row,
-        shape,
-        gain,
-        sign_a,
-        sign_b,
-        index_a,
-        index_b,
-    };
-    let mut factors = [0.0f32; 16];
-    sns_decode::decode(frame, &mut factors);
-    bands(out, &factors)
-}
-
-// Each shape, its first and last gain, and both ends of the indices.
 fn syntheses(out: &mut impl Write) -> io::Result<()> {
-    decode(out, 0, 0, 0, 0, 0, 0, 0, 0)?;
-    decode(out, 31, 31, 0, 1, 1, 1, 2390003, 5)?;
-    decode(out, 17, 5, 1, 3, 0, 0, 1, 0)?;
-    decode(out, 1, 2, 2, 3, 1, 0, 15158271, 0)?;
-    decode(out, 3, 4, 3, 7, 0, 0, 774911, 0)
+    for fields in FRAMES {
+        let mut factors = [0.0f32; 16];
+        match sns_decode::decode(fields, &mut factors) {
+            Ok(()) => print_both(out, &factors)?,
+            Err(refused) => writeln!(out, "no {refused}")?,
+        }
+    }
+    Ok(())
 }
 
 // 80 lines of 8 kHz and 10 ms, and two past the last limit; the product of line 78 is infinite.
@@ -106,18 +154,16 @@ fn wide_spectrum(out: &mut impl Write) -> io::Result<()> {
     let mut gains = [2.0f32; 64];
     gains[63] = 4.0;
     let mut lines = [1.5f32; 82];
-    lines[78] = float_of(0x7f7f_ffff);
-    sns_shape::shape(0, true, 64, &gains, &mut lines);
-    print::words(out, b"lines")?;
-    print::floats(out, &lines)
+    lines[78] = f32::MAX;
+    let answer = sns_shape::shape(0, true, 64, &gains, &mut lines);
+    print_row(out, "lines", answer, &lines)
 }
 
 // 60 lines of 8 kHz and 7.5 ms, and one past the last limit.
 fn narrow_spectrum(out: &mut impl Write) -> io::Result<()> {
     let mut lines = [3.0f32; 61];
-    sns_shape::shape(0, false, 60, &[0.5; 60], &mut lines);
-    print::words(out, b"lines")?;
-    print::floats(out, &lines)
+    let answer = sns_shape::shape(0, false, 60, &[0.5; 60], &mut lines);
+    print_row(out, "lines", answer, &lines)
 }
 
 fn main(rt: HostRuntime) -> io::Result<()> {

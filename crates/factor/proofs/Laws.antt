@@ -1,27 +1,24 @@
 -- What the tests for NaN and infinities say, and that a factor that is taken is within the limit. Assumes nothing.
-use mathlib.Core.Path.{◌≡◌, refl, sym, ap, subst}
+use mathlib.Core.Path.{◌≡◌, refl, sym, ap}
 use mathlib.Core.Bool.{Bool, true, false, ◌||◌, not, false≢true}
 use Prim.Native.Nat.{ℕ, ◌*◌}
 use borrow.Author.Tests.{le-ltb}
 use lib.Dec.{T, ltb, nltb→le}
 use lib.IntN.{ℤ, pos}
-use lib.Ieee.{Float, nan, inf, fin, up, down, lt, eq, ne, neg}
-use lib.Ieee.Compare.{differs_from_itself}
+use lib.Ieee.{Float, nan, inf, fin, up, down, lt, neg}
+use Rattle.std.specs.Float.{float_is_finite}
 use Rattle.float_laws.specs.Kind.{finite}
 use Rattle.float_laws.specs.Decimal.{plus}
 use Rattle.float_laws.specs.Size.{Within}
 use Rattle.float_laws.proofs.Logic.{no}
 use Rattle.factor.specs.Check.{factor_limit, beyond}
 
--- ---- a value that differs from itself, or equals an infinity, isn't finite
-pub nan_not : (x : Float) → ne x x ≡ true → finite x ≡ false
-nan_not x h = ap finite (differs_from_itself x (subst T (sym h) tt))
-
-pub infinity_not : (x : Float) (s : Bool) → eq x (inf s) ≡ true → finite x ≡ false
-unfolding eq
-infinity_not nan s h = refl
-infinity_not (inf t) s h = refl
-infinity_not (fin t m e) s h = absurd (false≢true h)
+-- ---- std's test is the definition's
+pub finite_is : (x : Float) → float_is_finite x ≡ finite x
+unfolding float_is_finite
+finite_is nan = refl
+finite_is (inf s) = refl
+finite_is (fin s m e) = refl
 
 pub limit_finite_lem : T (finite factor_limit)
 unfolding factor_limit plus

@@ -1,4 +1,4 @@
-// The check of one factor, and whether a value is finite. Public for the crates above only; every result is pinned.
+// The check of one factor. Public for the crates above only; every result is pinned.
 
 #![tactic(auto)]
 
@@ -6,7 +6,8 @@ ghost use Rattle.std.specs.Prelude.{◌≡◌, T};
 ghost use Rattle.float_laws.specs.Kind.{finite};
 ghost use Rattle.factor.specs.Check.{factor_limit, checked_of};
 
-// The answer for one factor: the factor itself, the offending value, or nothing.
+// The answer for one factor: the factor itself, the offending value, or nothing. No Result, since document 01 names these
+// three cases and what each carries.
 #[derive(Clone, Copy)]
 pub enum Checked {
     Within(f32),
@@ -14,7 +15,7 @@ pub enum Checked {
     NotFinite,
 }
 
-// The limit of a factor, on both sides.
+// The limit of a factor, on both sides. Interpolation has one of its own, as large: one may move without the other.
 pub fn factor_limit() -> f32
     ensures { result ≡ factor_limit }
 {
@@ -27,23 +28,18 @@ pub fn check_against(x: f32, limit: f32) -> Checked
     requires { T (finite limit) }
     ensures { result ≡ checked_of limit x }
 {
-    if x != x {
-        return Checked::NotFinite;
+    if x > limit || x < -limit {
+        return if x.is_finite() {
+            Checked::TooFar(x)
+        } else {
+            Checked::NotFinite
+        };
     }
-    let infinity = f32::from_bits(0x7f80_0000);
-    if x > limit {
-        if x == infinity {
-            return Checked::NotFinite;
-        }
-        return Checked::TooFar(x);
+    if x.is_nan() {
+        Checked::NotFinite
+    } else {
+        Checked::Within(x)
     }
-    if x < -limit {
-        if x == -infinity {
-            return Checked::NotFinite;
-        }
-        return Checked::TooFar(x);
-    }
-    Checked::Within(x)
 }
 
 // Checks one factor.
@@ -51,18 +47,4 @@ pub fn check_factor(x: f32) -> Checked
     ensures { result ≡ checked_of factor_limit x }
 {
     check_against(x, factor_limit())
-}
-
-// A value that is neither NaN nor infinite.
-pub fn is_finite(x: f32) -> bool
-    ensures { result ≡ finite x }
-{
-    if x != x {
-        return false;
-    }
-    let infinity = f32::from_bits(0x7f80_0000);
-    if x == infinity {
-        return false;
-    }
-    x != -infinity
 }

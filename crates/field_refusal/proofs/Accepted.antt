@@ -6,10 +6,9 @@ use native.Mathlib.Omega.{arith}
 use borrow.Author.Tests.{ltb-false, leb-false, eqb-true, eq-eqb, le-ltb, lt-leb}
 use lib.Dec.{leb, eqb}
 use Rattle.shapes.specs.Sets.{set_b}
-use Rattle.refusals.specs.declared.Answer.TheVariants.{Done}
 use Rattle.frame_fields.specs.declared.Fields.{Fields}
 use Rattle.frame_fields.specs.Accepted.{uses_b, Accepted}
-use Rattle.refusals.specs.Answers.{answer_of}
+use Rattle.refusals.specs.Answers.{Done, answer_of}
 use Rattle.field_refusal.specs.Fields.{field_questions}
 use Rattle.refusals.proofs.Answers.{done, not_given, none_left}
 
@@ -23,14 +22,14 @@ under a b h = omega arith
 pub accepted : (f : Fields) → answer_of (field_questions f) ≡ Done → Accepted f
 unfolding field_questions
 accepted f e =
-    let low = done 1 0 _ _ e in
-    let high = done 1 1 _ _ low.1 in
-    let shape = done 2 0 _ _ high.1 in
-    let gain = done 3 0 _ _ shape.1 in
-    let sign_a = done 4 0 _ _ gain.1 in
-    let sign_b = done 4 1 _ _ sign_a.1 in
-    let index_a = done 5 0 _ _ sign_b.1 in
-    let index_b = done 5 1 _ _ index_a.1 in
+    let low = done _ 0 _ _ e in
+    let high = done _ 1 _ _ low.1 in
+    let shape = done _ 0 _ _ high.1 in
+    let gain = done _ 0 _ _ shape.1 in
+    let sign_a = done _ 0 _ _ gain.1 in
+    let sign_b = done _ 1 _ _ sign_a.1 in
+    let index_a = done _ 0 _ _ sign_b.1 in
+    let index_b = done _ 1 _ _ index_a.1 in
     record {
       tables = record {
         low_row = under _ 31 (ltb-false 31 _ low.0);
@@ -60,11 +59,11 @@ b_below shape end value h = by (eqb shape 0) refl
 pub taken : (f : Fields) → Accepted f → Done ≡ answer_of (field_questions f)
 unfolding field_questions
 taken f i =
-    not_given 1 0 _ _ (le-ltb 31 _ (most _ 31 i.tables.low_row))
-    (not_given 1 1 _ _ (le-ltb 31 _ (most _ 31 i.tables.high_row))
-    (not_given 2 0 _ _ (le-ltb 3 _ (most _ 3 i.tables.shape_below))
-    (not_given 3 0 _ _ (lt-leb _ _ i.tables.gain_below)
-    (not_given 4 0 _ _ (lt-leb 2 _ i.indexed.sign_a)
-    (not_given 4 1 _ _ (b_below f.shape 2 _ i.indexed.sign_b)
-    (not_given 5 0 _ _ (lt-leb _ _ i.indexed.index_a)
-    (not_given 5 1 _ _ (b_below f.shape set_b.size _ i.indexed.index_b) none_left)))))))
+    not_given _ 0 _ _ (le-ltb 31 _ (most _ 31 i.tables.low_row))
+    (not_given _ 1 _ _ (le-ltb 31 _ (most _ 31 i.tables.high_row))
+    (not_given _ 0 _ _ (le-ltb 3 _ (most _ 3 i.tables.shape_below))
+    (not_given _ 0 _ _ (lt-leb _ _ i.tables.gain_below)
+    (not_given _ 0 _ _ (lt-leb 2 _ i.indexed.sign_a)
+    (not_given _ 1 _ _ (b_below f.shape 2 _ i.indexed.sign_b)
+    (not_given _ 0 _ _ (lt-leb _ _ i.indexed.index_a)
+    (not_given _ 1 _ _ (b_below f.shape set_b.size _ i.indexed.index_b) none_left)))))))

@@ -8,47 +8,32 @@ ghost use Rattle.frame_fields.specs.Accepted.{uses_b};
 ghost use Rattle.field_refusal.specs.Fields.{field_questions};
 
 use frame_fields::Fields;
-use refusals::Answer;
+use refusals::{Refusal, Refused, refuse_if};
 use shapes::{PulseSet, RegularB};
 
-// Set B is in use, and the value is at or above the end.
+// Set B is in use, and the value is at or above the end. The shape is a number that may be any u32: refusal 2 is about it.
 fn over_in_b(shape: u32, value: u32, end: u32) -> bool
     ensures { result ≡ (uses_b shape && leb end value) }
 {
-    if shape != 0 {
-        return false;
-    }
-    end <= value
+    shape == 0 && end <= value
 }
 
-// The first refusal of the fields, or Done: 1, 2, 3, 4, 5, asked in this order.
-pub fn field_refusal(f: Fields) -> Answer
+// The first refusal of the fields: 1, 2, 3, 4, 5, asked in this order.
+#[tactic(auto, using(shapes::proofs::Sizes::size_regular_b), unfolding(refusals::specs::Answers::answer_of, crate::specs::Fields::field_questions))]
+pub fn field_refusal(f: Fields) -> Result<(), Refused>
     ensures { result ≡ answer_of (field_questions f) }
 {
-    if 31 < f.low_row {
-        return Answer::No(1, 0);
-    }
-    if 31 < f.high_row {
-        return Answer::No(1, 1);
-    }
-    if 3 < f.shape {
-        return Answer::No(2, 0);
-    }
-    if shapes::gain_count(f.shape) <= f.gain {
-        return Answer::No(3, 0);
-    }
-    if 2 <= f.sign_a {
-        return Answer::No(4, 0);
-    }
-    if over_in_b(f.shape, f.sign_b, 2) {
-        return Answer::No(4, 1);
-    }
+    refuse_if(31 < f.low_row, Refusal::Row, 0)?;
+    refuse_if(31 < f.high_row, Refusal::Row, 1)?;
+    refuse_if(3 < f.shape, Refusal::Shape, 0)?;
+    refuse_if(shapes::gain_count(f.shape) <= f.gain, Refusal::Gain, 0)?;
+    refuse_if(2 <= f.sign_a, Refusal::LeadSign, 0)?;
+    refuse_if(over_in_b(f.shape, f.sign_b, 2), Refusal::LeadSign, 1)?;
     let set = PulseSet::new(f.shape as usize);
-    if set.size <= f.index_a {
-        return Answer::No(5, 0);
-    }
-    if over_in_b(f.shape, f.index_b, RegularB::SIZE) {
-        return Answer::No(5, 1);
-    }
-    Answer::Done
+    refuse_if(set.size <= f.index_a, Refusal::Index, 0)?;
+    refuse_if(
+        over_in_b(f.shape, f.index_b, RegularB::SIZE),
+        Refusal::Index,
+        1,
+    )
 }

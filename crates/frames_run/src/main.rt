@@ -5,105 +5,100 @@
 // It ends with an error where a read or a write fails or there is no memory for a buffer; what was written before stands.
 #![tactic(auto)]
 
+ghost use Rattle.std.specs.Prelude.{◌≤◌};
+
 use frame_fields::Fields;
-use program_input::{bits_of, read_full, word};
-use program_text::print;
-use refusals::Answer;
+use program_input::{bits_of, read_full, words};
 use std::io;
 use std::io::{BufReader, BufWriter, Read, Write};
-use std::num::{wrapping_add_u32, wrapping_add_u64};
 
-// The next number of the input, and 0 where it has ended.
-fn next(input: &mut impl Read) -> io::Result<u32> {
-    let mut bytes = [0u8; 4];
+// A frame's band count and fields, with 0 for each number that the input ends before.
+fn next(input: &mut impl Read) -> io::Result<(u32, Fields)> {
+    let mut bytes = [0u8; 36];
     read_full(input, &mut bytes)?;
-    Ok(word(&bytes, 0))
+    let [
+        band_count,
+        low_row,
+        high_row,
+        shape,
+        gain,
+        sign_a,
+        sign_b,
+        index_a,
+        index_b,
+    ] = words::<9>(&bytes);
+    let fields = Fields {
+        low_row,
+        high_row,
+        shape,
+        gain,
+        sign_a,
+        sign_b,
+        index_a,
+        index_b,
+    };
+    Ok((band_count, fields))
 }
 
-fn fields(input: &mut impl Read) -> io::Result<Fields> {
-    Ok(Fields {
-        low_row: next(input)?,
-        high_row: next(input)?,
-        shape: next(input)?,
-        gain: next(input)?,
-        sign_a: next(input)?,
-        sign_b: next(input)?,
-        index_a: next(input)?,
-        index_b: next(input)?,
-    })
-}
-
-fn bits_added(sum: u32, values: &[f32]) -> u32 {
-    let mut all = sum;
-    let mut n = 0usize;
-    while n < values.len() {
-        all = wrapping_add_u32(all, bits_of(values[n]));
-        n += 1;
-    }
-    all
-}
-
-// The sum with a frame's band values added: 60 of them, or 64.
-fn bands_added(sum: u32, factors: &[f32; 16], band_count: u32) -> u32 {
-    if band_count == 60 {
-        let mut narrow = [0.0f32; 60];
-        sns_interpolate::interpolate(factors, 60, &mut narrow);
-        return bits_added(sum, &narrow);
-    }
-    let mut wide = [0.0f32; 64];
-    sns_interpolate::interpolate(factors, 64, &mut wide);
-    bits_added(sum, &wide)
-}
-
-// How many frames there were and how many were accepted, and the sum.
-#[derive(Clone, Copy)]
+// How many frames there were and how many were accepted, and the sum of the bits of all band values.
+#[derive(Clone, Copy, Default)]
 struct Seen {
     frames: u64,
     accepted: u64,
     sum: u32,
 }
 
-fn accepted_with(answer: Answer, accepted: u64) -> u64 {
-    match answer {
-        Answer::Done => wrapping_add_u64(accepted, 1),
-        Answer::No(_, _) => accepted,
+impl Seen {
+    // Adds a frame, by 60 bands or by 64. A refused one leaves its factors 0, and adds nothing to the sum.
+    fn add(&mut self, band_count: u32, fields: Fields) {
+        let mut factors = [0.0f32; 16];
+        self.frames = self.frames.wrapping_add(1);
+        if sns_decode::decode(fields, &mut factors).is_ok() {
+            self.accepted = self.accepted.wrapping_add(1);
+        }
+        if band_count == 60 {
+            self.add_bands::<60>(&factors);
+        } else {
+            self.add_bands::<64>(&factors);
+        }
     }
-}
 
-// What was seen, with one frame more. A refused one leaves its factors 0, and adds nothing to the sum.
-fn frame(input: &mut impl Read, band_count: u32, s: Seen) -> io::Result<Seen> {
-    let mut factors = [0.0f32; 16];
-    let answer = sns_decode::decode(fields(input)?, &mut factors);
-    Ok(Seen {
-        frames: wrapping_add_u64(s.frames, 1),
-        accepted: accepted_with(answer, s.accepted),
-        sum: bands_added(s.sum, &factors, band_count),
-    })
+    fn add_bands<const N: usize>(&mut self, factors: &[f32; 16])
+        requires { N ≤ 64 }
+    {
+        let mut bands = [0.0f32; N];
+        // 60 or 64 bands of decoded factors, or of zeros: no call says no.
+        let _ = sns_interpolate::interpolate(factors, N as u32, &mut bands);
+        self.sum = bands
+            .iter()
+            .fold(self.sum, |sum, x| sum.wrapping_add(bits_of(*x)));
+    }
 }
 
 // Every frame until the input ends.
 fn all(input: &mut impl Read) -> io::Result<Seen> {
-    let mut s = Seen {
-        frames: 0,
-        accepted: 0,
-        sum: 0,
-    };
-    let mut band_count = next(input)?;
-    let mut turns = u64::MAX;
-    while turns > 0 && band_count != 0 {
-        s = frame(input, band_count, s)?;
-        band_count = next(input)?;
-        turns -= 1;
+    let mut seen = Seen::default();
+    for _ in 0..u64::MAX {
+        let (band_count, fields) = next(input)?;
+        if band_count == 0 {
+            break;
+        }
+        seen.add(band_count, fields);
     }
-    Ok(s)
+    Ok(seen)
 }
 
 fn main(rt: HostRuntime) -> io::Result<()> {
     let mut input = BufReader::new(rt.alloc(), rt.reader())?;
-    let s = all(&mut input)?;
+    let Seen {
+        frames,
+        accepted,
+        sum,
+    } = all(&mut input)?;
     let mut out = BufWriter::new(rt.alloc(), io::writer(&rt))?;
-    print::pair(&mut out, b"# accepted of #", s.accepted, s.frames)?;
-    print::hex(&mut out, b", band values ", s.sum)?;
-    print::end_line(&mut out)?;
+    writeln!(
+        out,
+        "{accepted} accepted of {frames}, band values {sum:08x}"
+    )?;
     out.flush()
 }

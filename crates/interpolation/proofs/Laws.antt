@@ -1,21 +1,18 @@
 -- The bands by their numbers, and what a turn of each loop leaves. Assumes nothing.
-use mathlib.Core.Path.{◌≡◌, refl, ◌∙◌}
-use mathlib.Core.Logic.{◌⊎◌, inl, inr}
+use mathlib.Core.Path.{◌≡◌, refl, ap, ◌∙◌}
 use mathlib.Core.Bool.{Bool, true, false, cond}
-use mathlib.Core.List.{List}
-use Prim.Native.Nat.{ℕ, zero, suc, ◌+◌, ◌*◌, ◌/◌, ◌%◌, ◌≤◌, ◌<◌}
-use native.Mathlib.Nat.{le_of_eq}
+use mathlib.Core.List.{List, ◌∷◌}
+use Prim.Native.Nat.{ℕ, zero, suc, ◌+◌, ◌*◌, ◌/◌, ◌%◌, ◌<◌}
 use native.Mathlib.Omega.{arith}
-use borrow.Author.Tests.{lt-ltb, le-ltb, ltb-true}
-use lib.Dec.{T, ltb, eqb, eqb→eq, lit<}
-use lib.ListN.{length, get_or, set, take}
+use borrow.Author.Tests.{lt-ltb, le-ltb, ltb-true, ne_eqb}
+use lib.Dec.{ltb, lit<}
+use lib.ListN.{length, get_or, set, take, drop, length-drop}
 use lib.Ieee.{Float, nan}
-use lib.Seq.{take_all}
-use Rattle.float_laws.proofs.Logic.{or_split}
+use lib.Seq.{get_or-take, get_or-drop, length-take-le}
 use Rattle.list_laws.specs.ListOf.{list_of}
-use Rattle.list_laws.proofs.ListOf.{length_list_of, get_or_list_of, same_list_of}
-use Rattle.list_laws.proofs.Range.{Holds, holds_none, holds_join, holds_below, holds_up}
-use Rattle.interpolation.specs.Bands.{factor_at, between, past, band_of, halved_sum, narrow_of, count_ok, interpolated}
+use Rattle.list_laws.proofs.ListOf.{is_list_of, get_or_list_of, same_list_of}
+use Rattle.list_laws.proofs.Range.{Holds, holds_up}
+use Rattle.interpolation.specs.Bands.{factor_at, between, past, band_of, halved_sum, narrow_of, interpolated}
 
 -- ---- 64 bands
 band_between : (f : List Float) (n j b : ℕ) → n < 15 → j < 4 → b ≡ 4 * n + 2 + j → between f n j ≡ band_of f b
@@ -58,25 +55,27 @@ last_two f ys h =
     (holds_up nan (band_of f) 64 _ 62 (past f 0) 0 62 63 refl refl (lit< tt) refl h)
 
 -- ---- 60 bands
-pub narrow_moved : (old : ℕ → Float) (i : ℕ) → 4 ≤ i → old (i + 4) ≡ narrow_of old i
+-- bands 0 to 3, and the others moved down by four
+pub halves : (old rest : List Float) → length old ≡ 64 → rest ≡ take 56 (drop 8 old)
+    → halved_sum (get_or old 0 nan) (get_or old 1 nan) ∷ halved_sum (get_or old 2 nan) (get_or old 3 nan) ∷ halved_sum (get_or old 4 nan) (get_or old 5 nan)
+    ∷ halved_sum (get_or old 6 nan) (get_or old 7 nan) ∷ rest
+    ≡ list_of 60 (narrow_of (λ i. get_or old i nan))
 unfolding narrow_of
-narrow_moved old i h = rw (le-ltb i 4 h)
-
--- bands 0 to 3, where the others are done
-pub halves : (old : ℕ → Float) (ys : List Float) → Holds nan (narrow_of old) 64 ys 4 60
-    → Holds nan (narrow_of old) 64 (set (set (set (set ys 0 (halved_sum (old 0) (old 1))) 1 (halved_sum (old 2) (old 3))) 2 (halved_sum (old 4) (old 5))) 3 (halved_sum (old 6) (old 7))) 0 60
-unfolding narrow_of
-halves old ys h =
-    let p = next 3 _ (lit< tt) (next 2 _ (lit< tt) (next 1 _ (lit< tt) (next 0 ys (lit< tt) (holds_none nan (narrow_of old) 64 ys 0 h.size, h)))) in
-    holds_join nan (narrow_of old) 64 _ 0 4 60 p.0 p.1
+halves old rest l e = is_list_of 60 _ nan _ (rw e (omega (arith, length-take-le 56 (drop 8 old) (omega (arith, length-drop 8 old))))) by
   where
-    -- band k, beside those from 4 on
-    next : (k : ℕ) (ys : List Float) → k < 4 → Holds nan (narrow_of old) 64 ys 0 k × Holds nan (narrow_of old) 64 ys 4 60
-        → Holds nan (narrow_of old) 64 (set ys k (narrow_of old k)) 0 (suc k) × Holds nan (narrow_of old) 64 (set ys k (narrow_of old k)) 4 60
-    next k ys l h = (
-      holds_up nan (narrow_of old) 64 ys k (narrow_of old k) 0 k (suc k) refl (omega arith) (omega arith) refl h.0,
-      holds_below nan (narrow_of old) 64 ys k (narrow_of old k) 4 60 l h.1,
-    )
+    place : (i : ℕ) → 8 + i ≡ suc (suc (suc (suc i))) + 4
+    place i = omega arith
+
+    by : (i : ℕ) → i < 60
+        → get_or (halved_sum (get_or old 0 nan) (get_or old 1 nan) ∷ halved_sum (get_or old 2 nan) (get_or old 3 nan) ∷ halved_sum (get_or old 4 nan) (get_or old 5 nan)
+        ∷ halved_sum (get_or old 6 nan) (get_or old 7 nan) ∷ rest) i nan
+        ≡ narrow_of (λ i. get_or old i nan) i
+    by zero h = refl
+    by (suc zero) h = refl
+    by (suc (suc zero)) h = refl
+    by (suc (suc (suc zero))) h = refl
+    by (suc (suc (suc (suc i)))) h =
+        rw (e, le-ltb (suc (suc (suc (suc i)))) 4 (omega arith)) (get_or-take 56 (drop 8 old) i nan (omega arith) ∙ get_or-drop 8 old i nan ∙ ap (λ (j : ℕ). get_or old j nan) (place i))
 
 -- made of the 64 bands
 old_bands : (f : List Float) → list_of 60 (narrow_of (λ i. get_or (list_of 64 (band_of f)) i nan)) ≡ list_of 60 (narrow_of (band_of f))
@@ -93,24 +92,10 @@ old_bands f = same_list_of 60 (narrow_of (λ i. get_or (list_of 64 (band_of f)) 
     by i false e l = rw (e, known (i + 4) (omega arith))
 
 -- ---- what the lent bands hold at return
-pub count_top : (count : ℕ) → T (count_ok count) → count ≤ 64
-count_top count h =
-    elim (or_split (eqb count 60) (eqb count 64) h) [
-      | inl t ↦ let e = eqb→eq count 60 t in omega arith
-      | inr t ↦ let e = eqb→eq count 64 t in omega arith
-    ]
-
-pub narrow : (f old reduced out : List Float) (count : ℕ) → count ≡ 60 → old ≡ list_of 64 (band_of f) → take 60 reduced ≡ list_of 60 (narrow_of (λ i. get_or old i nan)) → out ≡ take count reduced
-    → out ≡ interpolated f count
+pub narrow : (f old out : List Float) (count : ℕ) → count ≡ 60 → old ≡ list_of 64 (band_of f) → out ≡ list_of 60 (narrow_of (λ i. get_or old i nan)) → out ≡ interpolated f count
 unfolding interpolated
-narrow f old reduced out count e p q r = r ∙ rw e (q ∙ rw p (old_bands f))
+narrow f old out count e p q = q ∙ rw (e, p) (old_bands f)
 
-pub wide : (f old out : List Float) (count : ℕ) → T (count_ok count) → (count ≡ 60 → ⊥) → old ≡ list_of 64 (band_of f) → out ≡ take count old → out ≡ interpolated f count
+pub wide : (f out : List Float) (count : ℕ) → (count ≡ 60 → ⊥) → out ≡ list_of 64 (band_of f) → out ≡ interpolated f count
 unfolding interpolated
-wide f old out count h d p r =
-    let e : count ≡ 64 = by (or_split (eqb count 60) (eqb count 64) h) in
-    r ∙ rw (e, p) (take_all 64 (list_of 64 (band_of f)) (le_of_eq (length_list_of 64 (band_of f))))
-  where
-    by : T (eqb count 60) ⊎ T (eqb count 64) → count ≡ 64
-    by (inl t) = absurd (d (eqb→eq count 60 t))
-    by (inr t) = eqb→eq count 64 t
+wide f out count d p = p ∙ rw (ne_eqb count 60 d)

@@ -1,6 +1,8 @@
 pub mod Every
 pub mod ListOf
 pub mod Fill
+pub mod FromFn
+pub mod Folds
 pub mod InPlace
 pub mod Some
 pub mod Full

@@ -3,6 +3,5 @@ pub mod Claims
 pub mod Corners
 pub mod Counts
 pub mod Signed
-pub mod Signs
 pub mod Suffix
 pub mod Walk

@@ -1,12 +1,14 @@
 -- Unpacking, place by place: the part that is filled, and the vector that is to come. Assumes nothing.
 use mathlib.Core.Path.{◌≡◌, refl, sym, ap, ◌∙◌}
 use mathlib.Core.Logic.{◌⊎◌, inl, inr}
-use mathlib.Core.List.{List, ◌∷◌, ◌++◌}
+use mathlib.Core.List.{List, ◌∷◌, ◌++◌, append-nil}
 use Prim.Native.Nat.{ℕ, zero, suc, ◌+◌, ◌-◌, ◌≤◌, ◌<◌}
 use native.Mathlib.Nat.{sub-zero}
 use native.Mathlib.Omega.{arith}
 use lib.IntN.{ℤ, pos}
-use lib.ListN.{length, take, set, replicate}
+use lib.ListN.{length, length-drop, take, drop, set, replicate}
+use lib.Seq.{drop-length}
+use borrow.Rule.Slice.PartMut.{put_mid}
 use Rattle.list_laws.proofs.Prefix.{prefix_more, prefix_all}
 use Rattle.mpvq_offsets.specs.Offsets.{offset_of}
 use Rattle.numbering.specs.Numbering.{signed, next_sign, next_index, vector_at}
@@ -73,8 +75,11 @@ module _ (dim at k s i : ℕ) (out w : List ℤ) (e : w ≡ take at out ++ vecto
       let p : vector_at (suc (dim - 1 - at)) k s i ≡ x ∷ vector_at (dim - 1 - at) c s' i' = rw (hx, hi, hs, hr, hc) in
       e ∙ rw (a, b, p) (prefix_more out at x (vector_at (dim - 1 - at) c s' i') (omega arith))
 
-  pub stops : (new : List ℤ) → (k < 2) ⊎ (i ≡ 0) → new ≡ take at out ++ set (replicate (length out - at) (pos 0)) i (signed s k) → new ≡ w
-  stops new z p = p ∙ rw l (sym (e ∙ rw (at_one_place (dim - at) k s i z)))
+  -- the places that are left, n of them, are filled at once
+  pub stops : (n : ℕ) (rest : List ℤ) → (k < 2) ⊎ (i ≡ 0) → n ≡ dim - at → rest ≡ set (replicate n (pos 0)) i (signed s k)
+      → put_mid at (length out - at) out rest ≡ w
+  stops n rest z m p =
+      rw (← length-drop at out, drop-length (drop at out), append-nil rest, p, m) (sym (e ∙ rw (at_one_place (dim - at) k s i z)))
 
 pub ended : (dim at k s i : ℕ) (out w : List ℤ) → w ≡ take at out ++ vector_at (dim - at) k s i → dim ≤ at → length out ≡ dim → out ≡ w
 unfolding vector_at

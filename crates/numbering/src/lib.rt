@@ -8,8 +8,8 @@ ghost use Rattle.numbering.specs.Numbering.{pulses_of, lead_sign, sign_before, p
 
 use mpvq_offsets::mpvq_offset;
 
-// An index with its lead sign.
-#[derive(Clone, Copy)]
+// An index with its lead sign: the number 0 or 1, as document 01 has it, since `2 * index + sign` and `ind % 2` work on it.
+#[derive(Clone, Copy, PartialEq, Eq, Debug)]
 pub struct Numbered {
     pub index: u32,
     pub sign: u32,
@@ -20,11 +20,7 @@ fn magnitude(x: i32) -> usize
     ensures size { result ≡ nat_abs x }
     ensures small { result ≤ 2147483648 }
 {
-    if x < 0 {
-        (0 - (x as i64)) as usize
-    } else {
-        x as usize
-    }
+    x.unsigned_abs() as usize
 }
 
 // The pulses of a vector. Sixteen sizes of an i32 fit a usize, so no sum overflows.
@@ -32,13 +28,7 @@ pub fn pulses(v: &[i32]) -> usize
     requires { length v.now ≤ 16 }
     ensures { result ≡ pulses_of v.now }
 {
-    let mut sum: usize = 0;
-    let mut pos = v.len();
-    while 0 < pos {
-        pos -= 1;
-        sum += magnitude(v[pos]);
-    }
-    sum
+    v.iter().map(|x| magnitude(*x)).sum()
 }
 
 // A place before a vector that is numbered already: where it has pulses, the sign so far goes into the index.
@@ -49,11 +39,10 @@ fn enc_push_sign(val: i32, sign: u32, index: u32) -> Numbered
     if val == 0 {
         return Numbered { index, sign };
     }
-    let index = 2 * index + sign;
-    if val < 0 {
-        return Numbered { index, sign: 1 };
+    Numbered {
+        index: 2 * index + sign,
+        sign: u32::from(val < 0),
     }
-    Numbered { index, sign: 0 }
 }
 
 // Packs a vector of at most sixteen places and ten pulses: its index and its lead sign, from its last place down.
@@ -61,14 +50,10 @@ pub fn mvpq_enum(v: &[i32]) -> Numbered
     requires { (length v.now ≤ 16) × (pulses_of v.now ≤ 10) }
     ensures { (result.index ≡ index_of v.now) × (result.sign ≡ lead_sign v.now) }
 {
-    let mut index: u32 = 0;
-    let mut next_sign: u32 = 0;
-    let mut k_val_acc: usize = 0;
-    let mut pos = v.len();
-    while 0 < pos {
-        let n = v.len() - pos;
-        pos -= 1;
-        let val = v[pos];
+    let mut index = 0;
+    let mut next_sign = 0;
+    let mut k_val_acc = 0;
+    for (n, val) in v.iter().rev().copied().enumerate() {
         let pushed = enc_push_sign(val, next_sign, index);
         index = pushed.index + mpvq_offset(n, k_val_acc);
         next_sign = pushed.sign;
@@ -104,33 +89,24 @@ fn setval_update_sign(delta: usize, sign: u32, ind: u32) -> Numbered
     }
 }
 
-// Zeros from a place on.
-fn clear(out: &mut [i32], from: usize)
-    ensures { out.new ≡ take from out.old ++ replicate (length out.old - from) (pos 0) }
+// All pulses that are left stand at one place, ind places on: zeros, and k pulses with their sign there, or nowhere if that
+// is past the end. The zeros are no `fill`, which takes more instructions, and the pulses are not stored by `get_mut`: after
+// it a proof knows no element of a slice.
+fn at_one_place(rest: &mut [i32], k: usize, sign: u32, ind: u32)
+    requires { k < 11 }
+    ensures { rest.new ≡ set (replicate (length rest.old) (pos 0)) ind (signed sign k) }
 {
-    let mut at = from;
-    while at < out.len() {
-        out[at] = 0;
-        at += 1;
+    for val in rest.iter_mut() {
+        *val = 0;
+    }
+    let place = ind as usize;
+    if place < rest.len() {
+        rest[place] = mind2vec_one(k, sign);
     }
 }
 
-// All pulses that are left stand at one place, ind places on from a place: zeros from that place on, and k pulses with
-// their sign there, or nowhere if that is past the end.
-fn at_one_place(out: &mut [i32], from: usize, k: usize, sign: u32, ind: u32)
-    requires { (from ≤ length out.old) × (k < 11) }
-    ensures { out.new ≡ take from out.old ++ set (replicate (length out.old - from) (pos 0)) ind (signed sign k) }
-{
-    clear(out, from);
-    let place = from + ind as usize;
-    if place < out.len() {
-        let val = mind2vec_one(k, sign);
-        out[place] = val;
-    }
-}
-
-// Unpacks: fills out, of dim places, with the vector of so many pulses at a lead sign and an index. Once fewer than two
-// pulses are left, or the index is zero, they stand at one place, and no offset is looked at.
+// Unpacks, with the Rust's parameters: fills out, of dim places, with the vector of so many pulses at a lead sign and an
+// index. Once fewer than two pulses are left, or the index is zero, they stand at one place, and no offset is looked at.
 pub fn mpvq_deenum(dim: usize, pulses: usize, sign: u32, index: u32, out: &mut [i32])
     requires { (dim ≤ 16) × (pulses < 11) × (length out.old ≡ dim) }
     ensures { out.new ≡ vector_at dim pulses sign index }
@@ -138,10 +114,9 @@ pub fn mpvq_deenum(dim: usize, pulses: usize, sign: u32, index: u32, out: &mut [
     let mut k_max_local = pulses;
     let mut leading_sign = sign;
     let mut ind = index;
-    let mut pos = 0;
-    while pos < dim {
+    for pos in 0..dim {
         if k_max_local < 2 || ind == 0 {
-            at_one_place(out, pos, k_max_local, leading_sign, ind);
+            at_one_place(&mut out[pos..], k_max_local, leading_sign, ind);
             return;
         }
         let n = dim - 1 - pos;
@@ -152,6 +127,5 @@ pub fn mpvq_deenum(dim: usize, pulses: usize, sign: u32, index: u32, out: &mut [
         leading_sign = next.sign;
         ind = next.index;
         k_max_local = left.pulses;
-        pos += 1;
     }
 }

@@ -1,41 +1,43 @@
 // Bytes as numbers: what the programs read. Public for the programs and the crates that they share. Each function is proved
-// to run safely on every input; what comes of it is held to the Rust's answers by the programs' expected output
-// (tests/frames).
+// to run safely on every input; clauses say what words, patterns and a filled buffer are, and the rest is held to the Rust's
+// answers by the programs' expected output (tests/frames).
 #![tactic(auto)]
 
-ghost use Rattle.std.specs.Prelude.{ℕ, ◌+◌, ◌*◌, ◌<◌, ◌≤◌, length, take, IfOk, OnErr};
+ghost use Rattle.std.specs.Prelude.{ℕ, ◌≡◌, ◌+◌, ◌*◌, ◌<◌, ◌≤◌, length, take, drop, IfOk, OnErr};
+ghost use Rattle.std.specs.Int.{w32, from_le_bytes};
 ghost use Rattle.std.specs.Io.KnownBytes.{Consumes, IsAtEnd};
+ghost use Rattle.list_laws.specs.ListOf.{list_of};
+ghost use Rattle.program_input.specs.Pattern.{pattern_of};
 
-use std::io;
 use std::io::Read;
+use std::{array, io};
 
-// The word of the four bytes from `at` on, the lowest first: each goes in at the top, and moves down as the next ones come.
-pub fn word(bytes: &[u8], at: usize) -> u32
-    requires { at + 4 ≤ length bytes.now }
+// The words of bytes, four of these each, the lowest first.
+pub fn words<const N: usize>(bytes: &[u8]) -> [u32; N]
+    requires { 4 * N ≤ length bytes.now }
+    ensures { result ≡ list_of N (λ n. from_le_bytes w32 (take 4 (drop (4 * n) bytes.now))) }
 {
-    let mut word = 0u32;
-    let mut n = 0usize;
-    while n < 4 {
-        word = word >> 8 | (bytes[at + n] as u32) << 24;
-        n += 1;
-    }
-    word
+    let (words, _) = bytes.as_chunks::<4>();
+    array::from_fn(|n| u32::from_le_bytes(words[n]))
 }
 
-// The float of a pattern; every NaN is one. Its pattern, but for the sign, is above that of infinity.
+// The float of a pattern. No proof says which NaN a float is, so every NaN is one: its pattern, but for the sign, is above
+// that of infinity.
 pub fn float_of(bits: u32) -> f32 {
     if 0x7f80_0000 < bits % 0x8000_0000 {
-        return 0.0 / 0.0;
+        return f32::NAN;
     }
     f32::from_bits(bits)
 }
 
 // The pattern of a float; every NaN is one.
-pub fn bits_of(x: f32) -> u32 {
-    if x != x {
+pub fn bits_of(x: f32) -> u32
+    ensures { result ≡ pattern_of x }
+{
+    if x.is_nan() {
         return 0x7fc0_0000;
     }
-    f32::to_bits(x)
+    x.to_bits()
 }
 
 // How many records of 64 bytes are whole.
@@ -45,17 +47,10 @@ pub fn whole_records(bytes: &[u8]) -> usize
     bytes.len() / 64
 }
 
-// The sixteen floats of the record from `at` on.
-pub fn record(bytes: &[u8], at: usize) -> [f32; 16]
-    requires { at + 64 ≤ length bytes.now }
-{
-    let mut factors = [0.0f32; 16];
-    let mut n = 0usize;
-    while n < 16 {
-        factors[n] = float_of(word(bytes, at + 4 * n));
-        n += 1;
-    }
-    factors
+// The sixteen floats of a record.
+pub fn record(bytes: &[u8; 64]) -> [f32; 16] {
+    let words = words::<16>(bytes);
+    array::from_fn(|n| float_of(words[n]))
 }
 
 // Reads until `buf` is full or the input ends, and answers how many bytes it put at the start of `buf`. It fails only with the
@@ -67,6 +62,7 @@ pub fn read_full<R: Read>(input: &mut R, buf: &mut [u8]) -> io::Result<usize>
     ensures err { OnErr result ((n : ℕ) × (n ≤ length buf.new) × Consumes (R.remaining input.old) (R.remaining input.new) (take n buf.new)) }
 {
     let mut done = 0usize;
+    // a `while`: each read says how far it came, and no iterator does
     while done < buf.len() {
         let got = input.read(&mut buf[done..])?;
         if got == 0 {

@@ -1,86 +1,51 @@
 // One record of sixteen factors: quantized, and a line of text for it.
-ghost use Rattle.std.specs.Prelude.{◌+◌, ◌≤◌, length};
-
-use program_text::text::Block;
-use program_text::{print, text};
-use refusals::Answer;
+use frame_fields::Fields;
+use refusals::Refused;
+use sns_encode::Encoded;
+use std::fmt::Display;
 use std::io;
 use std::io::Write;
 
-// A record's answer; low row, high row, shape, gain, sign A, sign B, joint index, index A, index B; the sixteen factors.
+// A record's frame with its joint index, and the sixteen synthesised factors.
 #[derive(Clone, Copy)]
 pub struct Quantized {
-    pub answer: Answer,
-    pub numbers: [u32; 9],
+    pub encoded: Encoded,
     pub factors: [f32; 16],
 }
 
-// Quantizes the record from `at` on.
-pub fn quantized_record(bytes: &[u8], at: usize) -> Quantized
-    requires { at + 64 ≤ length bytes.now }
-{
-    let record = program_input::record(bytes, at);
+// Quantizes a record.
+pub fn quantized_record(record: &[u8; 64]) -> Result<Quantized, Refused> {
     let mut factors = [0.0f32; 16];
-    let e = sns_encode::encode(&record, &mut factors);
-    let f = e.fields;
-    let numbers = [
-        f.low_row,
-        f.high_row,
-        f.shape,
-        f.gain,
-        f.sign_a,
-        f.sign_b,
-        e.joint_index,
-        f.index_a,
-        f.index_b,
-    ];
-    let answer = e.answer;
-    Quantized {
-        answer,
-        numbers,
-        factors,
-    }
+    let encoded = sns_encode::encode(&program_input::record(record), &mut factors)?;
+    Ok(Quantized { encoded, factors })
 }
 
-// How many records were refused: this one or none.
-pub fn refused_of(q: Quantized) -> u64 {
-    let answer = q.answer;
-    match answer {
-        Answer::Done => 0,
-        Answer::No(_, _) => 1,
-    }
-}
-
-// Puts a record's line, and answers where the text ends afterwards. Factors by their bits are written out at once, after the
-// text before them. It fails only with the error of a write.
-pub fn put_line(
+// Writes a frame's line: low row, high row, shape, gain, sign A, sign B, joint index, index A, index B, a bar, and the
+// factors as `shown` has them. It fails only with the error of a write.
+pub fn write_frame<D: Display + Drop, F: Fn(f32) -> D>(
     out: &mut impl Write,
-    block: &mut Block,
-    at: usize,
-    q: Quantized,
-    by_bits: bool,
-) -> io::Result<usize> {
-    let answer = q.answer;
-    match answer {
-        Answer::Done => {
-            let numbers = q.numbers;
-            let factors = q.factors;
-            let end = text::put_numbers(block, at, numbers);
-            let bar = text::put(block, end, b'|');
-            if by_bits {
-                text::write(out, block, bar)?;
-                print::floats(out, &factors)?;
-                return Ok(0);
-            }
-            let last = text::put_floats(block, bar, factors);
-            Ok(text::put(block, last, b'\n'))
-        }
-        Answer::No(number, place) => Ok(text::put_pair(
-            block,
-            at,
-            b"refused # at #\n",
-            number as u64,
-            place as u64,
-        )),
-    }
+    quantized: &Quantized,
+    shown: &F,
+) -> io::Result<()>
+    requires { F.IsAlwaysCallable shown.now }
+{
+    let Encoded {
+        fields,
+        joint_index,
+    } = quantized.encoded;
+    let Fields {
+        low_row,
+        high_row,
+        shape,
+        gain,
+        sign_a,
+        sign_b,
+        index_a,
+        index_b,
+    } = fields;
+    write!(
+        out,
+        "{low_row} {high_row} {shape} {gain} {sign_a} {sign_b} {joint_index} {index_a} {index_b} |"
+    )?;
+    program_text::line(out, quantized.factors.iter().map(|x| shown(*x)))
 }

@@ -1,57 +1,80 @@
 // Every record until the input ends, a line each, and the summary.
-use crate::frames::{put_line, quantized_record, refused_of};
+use crate::frames::{quantized_record, write_frame};
 use program_input::{read_full, whole_records};
-use program_text::{print, text};
-use std::io;
+use std::fmt::Display;
 use std::io::{BufWriter, Write};
-use std::num::wrapping_add_u64;
+use std::{fmt, io};
+
+// 256 records of sixteen floats.
+const BLOCK: usize = 16384;
+
+// How many records were whole, how many of them were refused, and whether the last one was cut.
+#[derive(Clone, Copy, Default)]
+struct Summary {
+    records: u64,
+    refused: u64,
+    is_cut: bool,
+}
+
+impl Display for Summary {
+    fn fmt<W: fmt::Write>(&self, f: &mut fmt::Formatter<W>) -> fmt::Result {
+        let Summary {
+            records,
+            refused,
+            is_cut,
+        } = *self;
+        if is_cut {
+            return write!(f, "cut\n{records} records, {refused} refused, 1 cut");
+        }
+        write!(f, "{records} records, {refused} refused")
+    }
+}
 
 // Writes the lines of the whole records, and answers how many were refused. It fails only with the error of a write.
-fn put_lines(out: &mut impl Write, bytes: &[u8], by_bits: bool) -> io::Result<u64> {
-    let mut block = [0u8; 131072];
-    let mut at = 0usize;
+fn write_lines<D: Display + Drop, F: Fn(f32) -> D>(
+    out: &mut impl Write,
+    bytes: &[u8],
+    shown: &F,
+) -> io::Result<u64>
+    requires { F.IsAlwaysCallable shown.now }
+{
     let mut refused = 0u64;
-    let mut n = 0usize;
-    while n < whole_records(bytes) {
-        let q = quantized_record(bytes, 64 * n);
-        at = put_line(out, &mut block, at, q, by_bits)?;
-        refused = wrapping_add_u64(refused, refused_of(q));
-        n += 1;
+    for record in bytes.as_chunks::<64>().0 {
+        match quantized_record(record) {
+            Ok(quantized) => write_frame(out, &quantized, shown)?,
+            Err(why) => {
+                writeln!(out, "refused {why}")?;
+                refused = refused.wrapping_add(1);
+            }
+        }
     }
-    text::write(out, &block, at)?;
     Ok(refused)
 }
 
-// What is left of a record is cut.
-fn print_summary(out: &mut impl Write, bytes: u64, refused: u64) -> io::Result<()> {
-    if bytes % 64 != 0 {
-        return print::pair(
-            out,
-            b"cut\n# records, # refused, 1 cut\n",
-            bytes / 64,
-            refused,
-        );
-    }
-    print::pair(out, b"# records, # refused\n", bytes / 64, refused)
-}
-
-// Blocks of 256 records, until one is not full. Factors by their bits, or as decimal numbers. No input is long enough to
-// reach the end of an u64. It fails only where there is no memory for the output's buffer, or with the error of a read or of a
-// write; what was written before stays written.
-pub fn run(rt: &(impl Input + Print + AllocGlobal), by_bits: bool) -> io::Result<()> {
+// Blocks of 256 records, until one is not full, and each float as `shown` has it. No input is long enough to reach the end
+// of an u64. It fails only where there is no memory for the output's buffer, or with the error of a read or of a write; what
+// was written before stands, and whole records of a block that could not be read have no line.
+pub fn run<D: Display + Drop, F: Fn(f32) -> D>(
+    rt: &(impl Input + Print + AllocGlobal),
+    shown: F,
+) -> io::Result<()>
+    requires { F.IsAlwaysCallable shown }
+{
     let mut input = rt.reader();
     let mut out = BufWriter::new(rt.alloc(), io::writer(rt))?;
-    let mut block = [0u8; 16384];
-    let mut got = 16384usize;
-    let mut bytes = 0u64;
-    let mut refused = 0u64;
-    let mut turns = u64::MAX;
-    while turns > 0 && got == 16384 {
-        got = read_full(&mut input, &mut block)?;
-        refused = wrapping_add_u64(refused, put_lines(&mut out, &block[..got], by_bits)?);
-        bytes = wrapping_add_u64(bytes, got as u64);
-        turns -= 1;
+    let mut block = [0u8; BLOCK];
+    let mut all = Summary::default();
+    for _ in 0..u64::MAX {
+        let got = read_full(&mut input, &mut block)?;
+        let bytes = &block[..got];
+        let refused = write_lines(&mut out, bytes, &shown)?;
+        all.records = all.records.wrapping_add(whole_records(bytes) as u64);
+        all.refused = all.refused.wrapping_add(refused);
+        all.is_cut = got % 64 != 0;
+        if got < BLOCK {
+            break;
+        }
     }
-    print_summary(&mut out, bytes, refused)?;
+    writeln!(out, "{all}")?;
     out.flush()
 }

@@ -9,6 +9,8 @@ use borrow.Author.Tests.{lt-ltb, le-ltb, ltb-false, not-false}
 use lib.Dec.{T, ltb, lit≤}
 use lib.ListN.{length, get_or}
 use lib.Ieee.{Float, nan, inf, fin, binary32, of_bits, mul, div, lt, le}
+use Rattle.std.specs.Prelude.{Option, None, Some}
+use Rattle.std.specs.Option.{unwrap_or}
 use Rattle.float_laws.specs.Absolute.{abs_of}
 use Rattle.float_laws.specs.Kind.{finite}
 use Rattle.float_laws.specs.Floor.{floor_of}
@@ -22,7 +24,7 @@ use Rattle.list_laws.specs.Some.{some_below}
 use Rattle.list_laws.proofs.Some.{some_none, some_or}
 use Rattle.pulse_search.specs.declared.SearchRecord.{SearchRecord}
 use Rattle.pulse_search.specs.Pulse.{Search, sum_over, total_to}
-use Rattle.projection.specs.Projection.{projection_factor, product_at, projected_of, terms_of, with_terms, joined_to, some_not_finite, some_seven, total_over_six, zeros, whole, nothing, projection, Absolutes, AllBelowSeven, begun_of}
+use Rattle.projection.specs.Projection.{projection_factor, product_at, projected_of, terms_of, with_terms, joined_to, some_not_finite, some_seven, total_over_six, zeros, is_dropped, whole, nothing, projection, Absolutes, AllBelowSeven, begun_of}
 use Rattle.projection.specs.declared.Start.{Start}
 
 -- ---- no product has a minus sign
@@ -78,17 +80,16 @@ unfolding too_large
 all_below a h e n l = yes (not-false (lt (product_at a n) seven) (some_none 16 (too_large a) (too_large_is a h ∙ e) n l))
 
 -- ---- the three outcomes
-pub lost_large : (a : List Float) → some_not_finite a || some_seven a ≡ true → nothing ≡ projection a
-unfolding projection
-lost_large a e = sym (ap (λ (b : Bool). cond (b || total_over_six a) nothing (whole a)) e)
+pub dropped_large : (a : List Float) → some_not_finite a || some_seven a ≡ true → is_dropped a ≡ true
+dropped_large a e = ap (λ (b : Bool). b || total_over_six a) e
 
-pub lost_total : (a : List Float) → some_not_finite a || some_seven a ≡ false → 6 < total_to (projected_of a) 16 → nothing ≡ projection a
-unfolding projection total_over_six
-lost_total a e h = rw (e, lt-ltb 6 (total_to (projected_of a) 16) h)
+pub dropped_total : (a : List Float) → some_not_finite a || some_seven a ≡ false → 6 < total_to (projected_of a) 16 → is_dropped a ≡ true
+unfolding total_over_six
+dropped_total a e h = rw (e, lt-ltb 6 (total_to (projected_of a) 16) h)
 
-pub kept_whole : (a : List Float) → some_not_finite a || some_seven a ≡ false → total_to (projected_of a) 16 ≤ 6 → whole a ≡ projection a
-unfolding projection total_over_six
-kept_whole a e h = rw (e, le-ltb 6 (total_to (projected_of a) 16) h)
+pub not_dropped : (a : List Float) → some_not_finite a || some_seven a ≡ false → total_to (projected_of a) 16 ≤ 6 → is_dropped a ≡ false
+unfolding total_over_six
+not_dropped a e h = rw (e, le-ltb 6 (total_to (projected_of a) 16) h)
 
 -- What holds of nothing, and of the projected pulses where they are at most six, holds of the projection.
 pub by_outcome : (P : Search → Type 0) (a : List Float) → (total_to (projected_of a) 16 ≤ 6 → P (whole a)) → P nothing → P (projection a)
@@ -147,9 +148,20 @@ pub factor_is : (a : List Float) (s : Float) → s ≡ sum_to (λ n. get_or a n 
 unfolding projection_factor
 factor_is a s e = ap (div binary32 five) e
 
--- what the code answers where nothing is dropped
-pub begun_kept : (a : List Float) (y : List ℕ) (k : ℕ) (r : SearchRecord) → some_not_finite a || some_seven a ≡ false → y ≡ projected_of a → k ≡ total_to y 16 → k ≤ 6 → r ≡ joined_to a y 16
-    → ◌≡◌ {A = Start} (record { y = y; k = k; pair = r }) (begun_of (projection a))
-begun_kept a y k r e p q h s =
-    let w : total_to (projected_of a) 16 ≤ 6 = rw (q, p) at h in
-    rw (s, q, p) (ap begun_of (kept_whole a e w))
+-- ---- what the code answers: the projected pulses where they are kept, and nothing in their place
+pub lost : (a : List Float) → is_dropped a ≡ true → ◌≡◌ {A = Option Start} None (cond (is_dropped a) None (Some (begun_of (whole a))))
+lost a e = rw e
+
+pub kept : (a : List Float) (y : List ℕ) (k : ℕ) (r : SearchRecord) → some_not_finite a || some_seven a ≡ false → y ≡ projected_of a → k ≡ total_to y 16 → k ≤ 6 → r ≡ joined_to a y 16
+    → ◌≡◌ {A = Option Start} (Some (record { y = y; k = k; pair = r })) (cond (is_dropped a) None (Some (begun_of (whole a))))
+kept a y k r e p q h s =
+    let w : is_dropped a ≡ false = not_dropped a e (rw (q, p) at h) in
+    rw (s, q, p, w)
+
+pub begun_is : (a : List Float) → unwrap_or (cond (is_dropped a) None (Some (begun_of (whole a)))) (begun_of nothing) ≡ begun_of (projection a)
+unfolding projection
+begun_is a = by (is_dropped a)
+  where
+    by : (b : Bool) → unwrap_or (cond b None (Some (begun_of (whole a)))) (begun_of nothing) ≡ begun_of (cond b nothing (whole a))
+    by true = refl
+    by false = refl

@@ -1,12 +1,14 @@
-// Sixteen pulses of a shape as floats, and their length, which both ends divide by. Public for the crates above only: a
-// caller lends the roots and shows the `requires`. Every result is pinned.
+// Sixteen pulses of a shape, as floats, and their length, which both ends divide by. Public for the crates above only: a
+// caller lends the roots, and `Pulses` carries what the pulses of a shape are like. Every result is pinned.
 #![tactic(auto)]
 
 ghost use Rattle.std.specs.Prelude.{◌≡◌, ◌≤◌, ◌*◌, nat_abs};
 ghost use Rattle.std.specs.Float.{binary32};
 ghost use Rattle.std.specs.Float.Ieee.{of_int};
-ghost use Rattle.roots.specs.Root.{root_table};
 ghost use Rattle.pulse_length.specs.Length.{Sixteen, squared_length, length_of, floats_of};
+
+use roots::Roots;
+use std::array;
 
 // A pulse squared.
 fn square(y: i32) -> u32
@@ -14,28 +16,6 @@ fn square(y: i32) -> u32
     ensures { result ≡ nat_abs y * nat_abs y }
 {
     (y * y) as u32
-}
-
-// The squared length of sixteen pulses.
-fn squared_length(y: &[i32; 16]) -> u32
-    requires { Sixteen y.now }
-    ensures { result ≡ squared_length y.now }
-{
-    let mut sum = 0u32;
-    let mut k = 0usize;
-    while k < 16 {
-        sum += square(y[k]);
-        k += 1;
-    }
-    sum
-}
-
-// The length of sixteen pulses.
-pub fn length(roots: &[f32; 101], y: &[i32; 16]) -> f32
-    requires { (roots.now ≡ root_table) × Sixteen y.now }
-    ensures { result ≡ length_of y.now }
-{
-    roots::root(roots, squared_length(y) as usize)
 }
 
 // A pulse as a float.
@@ -46,16 +26,36 @@ fn pulse(y: i32) -> f32
     y as f32
 }
 
-// Sixteen pulses as floats.
-pub fn floats(y: &[i32; 16]) -> [f32; 16]
-    requires { Sixteen y.now }
-    ensures { result ≡ floats_of y.now }
-{
-    let mut x = [0.0f32; 16];
-    let mut k = 0usize;
-    while k < 16 {
-        x[k] = pulse(y[k]);
-        k += 1;
+// Sixteen pulses of a shape.
+#[derive(Clone, Copy)]
+pub struct Pulses {
+    pub y: [i32; 16],
+    ghost sixteen: { Sixteen y },
+}
+
+impl Pulses {
+    // The squared length.
+    fn squared_length(&self) -> u32
+        ensures { result ≡ squared_length self.now.y }
+    {
+        let mut sum = 0;
+        for y in &self.y {
+            sum += square(*y);
+        }
+        sum
     }
-    x
+
+    // The length.
+    pub fn length(&self, roots: &Roots) -> f32
+        ensures { result ≡ length_of self.now.y }
+    {
+        roots.root(self.squared_length() as usize)
+    }
+
+    // The pulses as floats.
+    pub fn floats(&self) -> [f32; 16]
+        ensures { result ≡ floats_of self.now.y }
+    {
+        array::from_fn(|k| pulse(self.y[k]))
+    }
 }

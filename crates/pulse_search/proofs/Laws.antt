@@ -19,14 +19,15 @@ module _ (a : List Float) (y : List ℕ) (r : SearchRecord) where
   unfolding best_to
   best_zero = scan_none (λ n best. replaces (pair_at a y r n) (pair_at a y r best))
 
-  module _ (n b : ℕ) (e : b ≡ best_to a y r n) (p t : SearchRecord) (h : p ≡ pair_at a y r (n + 1)) (k : t ≡ pair_at a y r b) where
-    pub best_move : replaces p t ≡ true → n + 1 ≡ best_to a y r (n + 1)
+  -- place n, after the best of the places up to m, the one before it
+  module _ (m n b : ℕ) (i : n ≡ m + 1) (e : b ≡ best_to a y r m) (p t : SearchRecord) (h : p ≡ pair_at a y r n) (k : t ≡ pair_at a y r b) where
+    pub best_move : replaces p t ≡ true → n ≡ best_to a y r n
     unfolding best_to
-    best_move w = scan_move (λ n best. replaces (pair_at a y r n) (pair_at a y r best)) n b e (rw (h, k) at w)
+    best_move w = rw i (scan_move (λ n best. replaces (pair_at a y r n) (pair_at a y r best)) m b e (rw (h, k, i) at w))
 
-    pub best_keep : replaces p t ≡ false → b ≡ best_to a y r (n + 1)
+    pub best_keep : replaces p t ≡ false → b ≡ best_to a y r n
     unfolding best_to
-    best_keep w = scan_keep (λ n best. replaces (pair_at a y r n) (pair_at a y r best)) n b e (rw (h, k) at w)
+    best_keep w = rw i (scan_keep (λ n best. replaces (pair_at a y r n) (pair_at a y r best)) m b e (rw (h, k, i) at w))
 
   pub best_le : (m : ℕ) → best_to a y r m ≤ m
   unfolding best_to

@@ -14,37 +14,37 @@ pub struct SearchRecord {
     pub energy: f32,
 }
 
-// The pair with one pulse more at place n.
-fn pair_at(abs_x: &[f32; 16], y: &[u8; 16], r: SearchRecord, n: usize) -> SearchRecord
-    requires { n < 16 }
-    ensures { result ≡ pair_at abs_x.now y.now r n }
-{
-    let pulses = y[n] as f32;
-    SearchRecord {
-        correlation: r.correlation + abs_x[n],
-        energy: (r.energy + 2.0 * pulses) + 1.0,
+impl SearchRecord {
+    // The pair with one pulse more at place n.
+    fn pair_at(self, abs_x: &[f32; 16], y: &[u8; 16], n: usize) -> SearchRecord
+        requires { n < 16 }
+        ensures { result ≡ pair_at abs_x.now y.now self n }
+    {
+        SearchRecord {
+            correlation: self.correlation + abs_x[n],
+            energy: (self.energy + 2.0 * f32::from(y[n])) + 1.0,
+        }
+    }
+
+    // The quotients c·c / e are compared by cross-multiplying.
+    fn replaces(self, best: SearchRecord) -> bool
+        ensures { result ≡ replaces self best }
+    {
+        (best.correlation * best.correlation) * self.energy
+            < (self.correlation * self.correlation) * best.energy
     }
 }
 
-// The quotients c·c / e are compared by cross-multiplying.
-fn replaces(p: SearchRecord, best: SearchRecord) -> bool
-    ensures { result ≡ replaces p best }
-{
-    (best.correlation * best.correlation) * p.energy < (p.correlation * p.correlation) * best.energy
-}
-
-// The best of places 0 to last, one place after another.
+// The best of places 0 to last, one place after another. The range is no `1..=last`, which takes more instructions.
 fn scan_places(abs_x: &[f32; 16], y: &[u8; 16], r: SearchRecord, last: usize) -> usize
     requires { last < 16 }
     ensures { result ≡ best_to abs_x.now y.now r last }
 {
-    let mut n_best = 0usize;
-    let mut best = pair_at(abs_x, y, r, 0);
-    let mut n = 0usize;
-    while n < last {
-        n += 1;
-        let p = pair_at(abs_x, y, r, n);
-        if replaces(p, best) {
+    let mut n_best = 0;
+    let mut best = r.pair_at(abs_x, y, 0);
+    for n in 1..last + 1 {
+        let p = r.pair_at(abs_x, y, n);
+        if p.replaces(best) {
             n_best = n;
             best = p;
         }
@@ -52,7 +52,7 @@ fn scan_places(abs_x: &[f32; 16], y: &[u8; 16], r: SearchRecord, last: usize) ->
     n_best
 }
 
-// The best of places 0 to last; low_x has zeros past them.
+// The best of places 0 to last; low_x has zeros past them. No struct holds these: y is lent for change between the calls.
 fn best_place(
     abs_x: &[f32; 16],
     low_x: &[f32; 16],
@@ -66,33 +66,21 @@ fn best_place(
     let c = pulse_guess::squares(low_x, r.correlation);
     let e = pulse_guess::energies(y, r.energy);
     let g = pulse_guess::guess(&c, &e);
-    if last < g {
-        return scan_places(abs_x, y, r, last);
+    if g <= last && pulse_guess::unbeaten(&c, &e, g) == 1 {
+        g
+    } else {
+        scan_places(abs_x, y, r, last)
     }
-    if pulse_guess::unbeaten(&c, &e, g) != 1 {
-        return scan_places(abs_x, y, r, last);
-    }
-    g
 }
 
-// The pulses of a place as a wider number.
-pub fn wide(x: u8) -> usize
-    ensures is { result ≡ x }
-    ensures small { result ≤ 255 }
-{
-    x as usize
-}
-
-// The pulses of the first n places.
+// The pulses of the first n places, as `total_to` has them.
 pub fn total(y: &[u8; 16], n: usize) -> usize
     requires { n ≤ 16 }
     ensures { result ≡ total_to y.now n }
 {
-    let mut k = 0usize;
-    let mut i = 0usize;
-    while i < n {
-        k = k + wide(y[i]);
-        i += 1;
+    let mut k = 0;
+    for pulses in &y[..n] {
+        k += usize::from(*pulses);
     }
     k
 }
@@ -110,15 +98,12 @@ pub fn add_unit_pulse(
     ensures pulses { y.new ≡ (more abs_x.now last (k_max - k) (start y.old r)).pulses }
     ensures pair { result ≡ (more abs_x.now last (k_max - k) (start y.old r)).pair }
 {
-    let count = k_max - k;
     let low_x = pulse_guess::first_places(abs_x, last);
     let mut pair = r;
-    let mut added = 0usize;
-    while added < count {
+    for _ in k..k_max {
         let n_best = best_place(abs_x, &low_x, y, pair, last);
-        pair = pair_at(abs_x, y, pair, n_best);
-        y[n_best] = y[n_best] + 1;
-        added += 1;
+        pair = pair.pair_at(abs_x, y, n_best);
+        y[n_best] += 1;
     }
     pair
 }

@@ -4,8 +4,9 @@
 // It ends with an error where a read or a write fails or there is no memory for a buffer; what was written before stands.
 #![tactic(auto)]
 
+use program_text::Decimal;
 use std::io;
 
 fn main(rt: HostRuntime) -> io::Result<()> {
-    program_records::run::run(&rt, false)
+    program_records::run::run(&rt, Decimal)
 }

@@ -16,14 +16,12 @@ use Rattle.list_laws.specs.Every.{both, every}
 use Rattle.list_laws.proofs.Every.{both_left, both_right, both_are, at}
 use Rattle.factor.specs.Check.{factor_limit, beyond}
 use Rattle.factor.proofs.Laws as factor
-use Rattle.refusals.specs.declared.Answer.{Answer}
-use Rattle.refusals.specs.declared.Answer.TheVariants.{Done}
 use Rattle.refusals.specs.declared.Element.{Element}
 use Rattle.refusals.specs.declared.Element.TheVariants.{Factor, Value}
-use Rattle.refusals.specs.Answers.{answer_of}
+use Rattle.refusals.specs.Answers.{Answer, Done, answer_of}
 use Rattle.refusals.specs.Elements.{element_asked, element_questions}
 use Rattle.refusals.specs.Claims.{ElementsNumbered}
-use Rattle.refusals.proofs.Answers.{none_left, not_given, done, and_then, appended, first_done, both_done, not_yes}
+use Rattle.refusals.proofs.Answers.{none_left, not_given, done, and_then, appended, all_pass, both_done, not_yes}
 
 -- ---- what is left from i on starts with the element at i
 pub element_at : (element : Element) (xs : List Float) (i : ℕ) (r : Answer) → i < length xs → r ≡ answer_of (element_asked element i (get_or xs i nan))
@@ -60,7 +58,7 @@ pub all_done : (element : Element) (place : ℕ) (xs : List Float) → T (every 
 unfolding element_questions
 all_done element place [] t = none_left
 all_done element place (x ∷ xs) t =
-    first_done (element_asked element place x) _ (one_done element place x (both_left (taken_as element x) (every (taken_as element) xs) t))
+    all_pass (element_asked element place x) _ refl (one_done element place x (both_left (taken_as element x) (every (taken_as element) xs) t))
     (all_done element (suc place) xs (both_right (taken_as element x) (every (taken_as element) xs) t))
 
 pub done_all : (element : Element) (place : ℕ) (xs : List Float) → answer_of (element_questions element place xs) ≡ Done → T (every (taken_as element) xs)

@@ -7,39 +7,39 @@ use native.Mathlib.Omega.{arith}
 use lib.Dec.{T, leb, leb→le}
 use lib.ListN.{length}
 use lib.Ieee.{Float}
-use Rattle.refusals.specs.declared.Answer.{Answer}
-use Rattle.refusals.specs.declared.Answer.TheVariants.{Done, No}
+use Rattle.std.specs.Prelude.{Ok, Err}
+use Rattle.refusals.specs.declared.Refusal.{Refusal}
 use Rattle.refusals.specs.declared.Element.{Element}
 use Rattle.refusals.specs.declared.Element.TheVariants.{Factor, Value}
-use Rattle.refusals.specs.Answers.{Question, ask, answer_of, place_of}
+use Rattle.refusals.specs.Answers.{Answer, Question, ask, answer_of, place_in}
 use Rattle.refusals.specs.Elements.{element_asked, element_questions}
 use Rattle.refusals.proofs.Answers.{and_then, appended}
 
 unfoldable pub Most : List Question → Type 0
-Most qs = place_of (answer_of qs) ≤ 400
+Most qs = place_in (answer_of qs) ≤ 400
 
 pub none : Most []
 unfolding Most answer_of
 none = omega arith
 
 -- a question's own place, and where it is not given those that follow
-pub step : (number place : ℕ) (b : Bool) (qs : List Question) → place ≤ 400 → (b ≡ false → Most qs) → Most (ask number place b ∷ qs)
+pub step : (refusal : Refusal) (place : ℕ) (b : Bool) (qs : List Question) → place ≤ 400 → (b ≡ false → Most qs) → Most (ask refusal place b ∷ qs)
 unfolding Most answer_of
-step number place true qs h m = h
-step number place false qs h m = m refl
+step refusal place true qs h m = h
+step refusal place false qs h m = m refl
 
 -- one whose place is written out
-pub ask_step : (number place : ℕ) (b : Bool) (qs : List Question) → T (leb place 400) → (b ≡ false → Most qs) → Most (ask number place b ∷ qs)
-ask_step number place b qs h m = step number place b qs (leb→le place 400 h) m
+pub ask_step : (refusal : Refusal) (place : ℕ) (b : Bool) (qs : List Question) → T (leb place 400) → (b ≡ false → Most qs) → Most (ask refusal place b ∷ qs)
+ask_step refusal place b qs h m = step refusal place b qs (leb→le place 400 h) m
 
 -- two lists, one after the other
 pub joined : (qs rest : List Question) → Most qs → Most rest → Most (qs ++ rest)
 unfolding Most
 joined qs rest m n = rw (appended qs rest) (by (answer_of qs) m)
   where
-    by : (a : Answer) → place_of a ≤ 400 → place_of (and_then a (answer_of rest)) ≤ 400
-    by Done h = n
-    by (No number place) h = h
+    by : (a : Answer) → place_in a ≤ 400 → place_in (and_then a (answer_of rest)) ≤ 400
+    by (Ok u) h = n
+    by (Err refused) h = h
 
 -- an element's questions have the element's place
 of_element : (element : Element) (place : ℕ) (x : Float) → place ≤ 400 → Most (element_asked element place x)

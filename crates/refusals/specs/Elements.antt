@@ -4,13 +4,14 @@ use Rattle.float_laws.specs.Kind.{finite}
 use Rattle.factor.specs.Check.{beyond}
 use Rattle.refusals.specs.declared.Element.{Element}
 use Rattle.refusals.specs.declared.Element.TheVariants.{Factor, Value}
+use Rattle.refusals.specs.declared.Refusal.TheVariants as refusal
 use Rattle.refusals.specs.Answers.{Question, ask}
 
 -- 7: a factor is NaN or infinite. 8: a factor is above the limit or below minus the limit.
 -- 12: a spectrum line or linear gain is NaN or infinite.
 abbrev pub element_asked : Element → ℕ → Float → List Question
-element_asked (Factor limit) place x = ask 7 place (not (finite x)) ∷ ask 8 place (beyond limit x) ∷ []
-element_asked Value place x = ask 12 place (not (finite x)) ∷ []
+element_asked (Factor limit) place x = ask refusal.NotFinite place (not (finite x)) ∷ ask refusal.TooFar place (beyond limit x) ∷ []
+element_asked Value place x = ask refusal.Value place (not (finite x)) ∷ []
 
 -- elements by place: the place is the element's index
 unfoldable pub element_questions : Element → ℕ → List Float → List Question

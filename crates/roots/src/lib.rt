@@ -1,5 +1,5 @@
 // The square roots of the whole numbers 1 to 101, each the nearest f32. Public for the crates above only; every result
-// is pinned. A caller asks for the table once and lends it on.
+// is pinned. A caller asks for the table once and lends it on: `Roots` carries with it that it is the table.
 
 #![tactic(auto)]
 
@@ -111,17 +111,23 @@ const ROOTS: [f32; 101] = [
 ];
 
 // The table: entry n - 1 is the root of n.
-pub fn roots() -> [f32; 101]
-    ensures { result ≡ root_table }
-{
-    ROOTS
+#[derive(Drop)]
+pub struct Roots {
+    pub table: [f32; 101],
+    ghost is_table: { table ≡ root_table },
 }
 
-// The root of n, from the lent table.
-pub fn root(table: &[f32; 101], n: usize) -> f32
-    requires table_value { table.now ≡ root_table }
-    requires le_n { (1 ≤ n) × (n ≤ 101) }
-    ensures { result ≡ root_of n }
-{
-    table[n - 1]
+impl Roots {
+    // Asked for once, and lent on.
+    pub fn new() -> Self {
+        Roots { table: ROOTS }
+    }
+
+    // The root of n.
+    pub fn root(&self, n: usize) -> f32
+        requires { (1 ≤ n) × (n ≤ 101) }
+        ensures { result ≡ root_of n }
+    {
+        self.table[n - 1]
+    }
 }

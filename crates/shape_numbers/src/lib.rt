@@ -1,5 +1,5 @@
 // A shape's sixteen pulses as the numbers of its sets, and back: `enumerate` numbers them, `pulses` makes them again. Public
-// for the crates above only; every result is pinned.
+// for the crates above only; every result is pinned. A shape is its number, of which `PulsesAgain` and the other claims speak.
 #![tactic(auto)]
 
 ghost use Rattle.std.specs.Prelude.{◌≡◌, ◌<◌};

@@ -21,13 +21,27 @@ module _ (a : List Float) (n b : ℕ) (e : b ≡ largest_to a n) where
   best : ℕ
   best = scan_to (λ n best. lt (get_or a (10 + best) nan) (get_or a (10 + n) nan)) n
 
-  pub largest_move : lt (get_or a b nan) (get_or a (10 + (n + 1)) nan) ≡ true → 10 + (n + 1) ≡ largest_to a (n + 1)
+  moved : lt (get_or a b nan) (get_or a (10 + (n + 1)) nan) ≡ true → 10 + (n + 1) ≡ largest_to a (n + 1)
   unfolding largest_to best
-  largest_move w = ap (λ (k : ℕ). 10 + k) (scan_move (λ n best. lt (get_or a (10 + best) nan) (get_or a (10 + n) nan)) n best refl (rw e at w))
+  moved w = ap (λ (k : ℕ). 10 + k) (scan_move (λ n best. lt (get_or a (10 + best) nan) (get_or a (10 + n) nan)) n best refl (rw e at w))
 
-  pub largest_keep : lt (get_or a b nan) (get_or a (10 + (n + 1)) nan) ≡ false → b ≡ largest_to a (n + 1)
+  kept : lt (get_or a b nan) (get_or a (10 + (n + 1)) nan) ≡ false → b ≡ largest_to a (n + 1)
   unfolding largest_to best
-  largest_keep w = e ∙ ap (λ (k : ℕ). 10 + k) (scan_keep (λ n best. lt (get_or a (10 + best) nan) (get_or a (10 + n) nan)) n best refl (rw e at w))
+  kept w = e ∙ ap (λ (k : ℕ). 10 + k) (scan_keep (λ n best. lt (get_or a (10 + best) nan) (get_or a (10 + n) nan)) n best refl (rw e at w))
+
+-- as the loop counts, from place 11 on
+module _ (a : List Float) (n b : ℕ) (h : 11 ≤ n) (e : b ≡ largest_to a (n - 11)) where
+  place : 10 + (n - 11 + 1) ≡ n
+  place = omega arith
+
+  turn : n + 1 - 11 ≡ n - 11 + 1
+  turn = omega arith
+
+  pub largest_move : lt (get_or a b nan) (get_or a n nan) ≡ true → n ≡ largest_to a (n + 1 - 11)
+  largest_move w = rw turn (sym place ∙ moved a (n - 11) b e (ap (λ (k : ℕ). lt (get_or a b nan) (get_or a k nan)) place ∙ w))
+
+  pub largest_keep : lt (get_or a b nan) (get_or a n nan) ≡ false → b ≡ largest_to a (n + 1 - 11)
+  largest_keep w = rw turn (kept a (n - 11) b e (ap (λ (k : ℕ). lt (get_or a b nan) (get_or a k nan)) place ∙ w))
 
 -- ---- from shape to shape, as the code goes on: its pulses and its pair are those of the search s
 pub record Reached (s : Search) (y : List ℕ) (r : SearchRecord) : Type 0 where

@@ -5,46 +5,28 @@
 ghost use Rattle.std.specs.Prelude.{◌≡◌, ◌*◌, ◌<◌};
 ghost use Rattle.list_laws.specs.ListOf.{list_of};
 ghost use Rattle.projection.specs.Projection.{Absolutes};
-ghost use Rattle.shape_search.specs.Shape.{low_of, dropped, dropped_to, largest_to, shape_pulses};
+ghost use Rattle.shape_search.specs.Shape.{low_of, dropped_to, largest_to, shape_pulses};
 
 use pulse_search::SearchRecord;
-
-// A place's two terms, subtracted where its pulses are not zero.
-fn leave(r: SearchRecord, pulses: u8, x: f32) -> SearchRecord
-    ensures { result ≡ dropped r pulses x }
-{
-    if pulses == 0 {
-        return r;
-    }
-    let m = pulses as f32;
-    SearchRecord {
-        correlation: r.correlation - m * x,
-        energy: r.energy - m * m,
-    }
-}
 
 // The pair without the places from 10 on.
 fn without_high(abs_x: &[f32; 16], y: &[u8; 16], r: SearchRecord) -> SearchRecord
     ensures { result ≡ dropped_to abs_x.now y.now r 6 }
 {
     let mut p = r;
-    let mut n = 0usize;
-    while n < 6 {
-        p = leave(p, y[10 + n], abs_x[10 + n]);
-        n += 1;
+    for n in 10..16 {
+        p = projection::with_terms(|sum, term| sum - term, p, y[n], abs_x[n]);
     }
     p
 }
 
-// Places 0 to 9, and no pulses on the others.
+// Places 0 to 9, and no pulses on the others. Stored over zeros: of a row that `from_fn` makes, the later steps are slower.
 fn low_places(y: &[u8; 16]) -> [u8; 16]
     ensures { result ≡ low_of y.now }
 {
     let mut low = [0u8; 16];
-    let mut n = 0usize;
-    while n < 10 {
+    for n in 0..10 {
         low[n] = y[n];
-        n += 1;
     }
     low
 }
@@ -54,11 +36,9 @@ fn largest_high(abs_x: &[f32; 16]) -> usize
     ensures { result ≡ largest_to abs_x.now 5 }
 {
     let mut n_best = 10usize;
-    let mut n = 0usize;
-    while n < 5 {
-        n += 1;
-        if abs_x[n_best] < abs_x[10 + n] {
-            n_best = 10 + n;
+    for n in 11..16 {
+        if abs_x[n_best] < abs_x[n] {
+            n_best = n;
         }
     }
     n_best

@@ -1,9 +1,7 @@
 -- The sets of pulse vectors that are numbered, and the shapes that are made of them. Definitions only.
-use Rattle.std.specs.Prelude.{ℕ, zero, suc, Bool, ◌&&◌, ◌||◌, cond, eqb}
+use Rattle.std.specs.Prelude.{ℕ, zero, suc, Bool, ◌&&◌, ◌||◌, cond, eqb, Option, Some, None}
 use Rattle.mpvq_offsets.specs.Offsets.{size_of}
 use Rattle.shapes.specs.declared.PulseSet.{PulseSet}
-use Rattle.shapes.specs.declared.Found.{Found}
-use Rattle.shapes.specs.declared.Found.TheVariants.{Set, Nothing}
 
 -- n places with k pulses: its size is A(0,k) + ... + A(n-1,k)
 abbrev pub set_of : ℕ → ℕ → PulseSet
@@ -28,5 +26,5 @@ abbrev pub paired : ℕ → ℕ → Bool
 paired n k = same_pair n k 10 10 || same_pair n k 6 1 || same_pair n k 16 8 || same_pair n k 16 6
 
 -- the set of a pair, where it is one of the four
-unfoldable pub found_of : ℕ → ℕ → Found
-found_of n k = cond (paired n k) (Set (set_of n k)) Nothing
+unfoldable pub found_of : ℕ → ℕ → Option PulseSet
+found_of n k = cond (paired n k) (Some (set_of n k)) None

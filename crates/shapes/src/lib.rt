@@ -1,6 +1,8 @@
 // The shapes: each set of pulse vectors states its dimension, pulse count and size as constants of a type of its own, and
 // the set of a shape how many gains the shape has; PulseSet's constructors, the scan and the joint index read them there.
 // Public for the crates above only; every result is pinned.
+// The types are no instances of a trait, since the clause of a constructor over it would ask each number a second time, as a
+// ghost member.
 #![tactic(auto)]
 
 ghost use Rattle.std.specs.Prelude.{◌≡◌, ◌<◌};
@@ -85,15 +87,9 @@ pub struct PulseSet {
     pub size: u32,
 }
 
-// The set of a pair, or none.
-#[derive(Clone, Copy)]
-pub enum Found {
-    Set(PulseSet),
-    Nothing,
-}
-
 impl PulseSet {
-    // Set A of a shape: all of its pulses, but for the one of set B.
+    // Set A of a shape: all of its pulses, but for the one of set B. The shape is a number, as the theorems and the C
+    // interface have it.
     pub fn new(shape: usize) -> Self
         requires { shape < 4 }
         ensures { result ≡ set_a shape }
@@ -134,35 +130,20 @@ impl PulseSet {
     }
 
     // The set of a dimension and a pulse count, where the pair is one of the four.
-    pub fn find(dimension: usize, pulses: usize) -> Found
+    pub fn find(dimension: usize, pulses: usize) -> Option<Self>
         ensures { result ≡ found_of dimension pulses }
     {
-        if dimension == RegularA::DIMENSION {
-            if pulses == RegularA::PULSES {
-                return Found::Set(PulseSet::new(0));
-            }
-            return Found::Nothing;
+        match (dimension, pulses) {
+            (RegularA::DIMENSION, RegularA::PULSES) => Some(PulseSet::new(0)),
+            (RegularB::DIMENSION, RegularB::PULSES) => Some(PulseSet::set_b()),
+            (OutlierNear::DIMENSION, OutlierNear::PULSES) => Some(PulseSet::new(2)),
+            (OutlierFar::DIMENSION, OutlierFar::PULSES) => Some(PulseSet::new(3)),
+            _ => None,
         }
-        if dimension == RegularB::DIMENSION {
-            if pulses == RegularB::PULSES {
-                return Found::Set(PulseSet::set_b());
-            }
-            return Found::Nothing;
-        }
-        if dimension == OutlierNear::DIMENSION {
-            if pulses == OutlierNear::PULSES {
-                return Found::Set(PulseSet::new(2));
-            }
-            if pulses == OutlierFar::PULSES {
-                return Found::Set(PulseSet::new(3));
-            }
-            return Found::Nothing;
-        }
-        Found::Nothing
     }
 }
 
-// How many gains a shape has.
+// How many gains a shape has; the shape is its number, as in `gains_of`.
 pub fn gain_count(shape: u32) -> u32
     requires { shape < 4 }
     ensures { result ≡ gains_of shape }

@@ -1,5 +1,6 @@
 // Shaping of a spectrum in place, band by band, and how many bands there are. Public for the crates above only: a caller
-// shows the `requires`. Every line at return and every other result is pinned.
+// shows the `requires`. Every line at return and every other result is pinned. A rate is its index and a frame length a
+// flag, true for 10 ms, as `limits_of` has them and C hands them in.
 
 #![tactic(auto)]
 
@@ -15,13 +16,7 @@ use band_index_tables::band_limits;
 pub fn bands_of(rate: u32, ten_ms: bool) -> u32
     ensures { result ≡ bands_of rate ten_ms }
 {
-    if rate != 0 {
-        return 64;
-    }
-    if ten_ms {
-        return 64;
-    }
-    60
+    if rate == 0 && !ten_ms { 60 } else { 64 }
 }
 
 // Where their last band ends.
@@ -37,10 +32,8 @@ pub fn last_limit(rate: u32, ten_ms: bool) -> usize
 fn scale(lines: &mut [f32], gain: f32)
     ensures { lines.new ≡ map (λ line. mul binary32 line gain) lines.old }
 {
-    let mut i = 0usize;
-    while i < lines.len() {
-        lines[i] = lines[i] * gain;
-        i += 1;
+    for line in lines {
+        *line *= gain;
     }
 }
 
@@ -58,9 +51,7 @@ pub fn shape(rate: usize, ten_ms: bool, gains: &[f32], lines: &mut [f32])
     ensures { lines.new ≡ shaped_of rate ten_ms gains.now lines.old }
 {
     let limits = band_limits(rate, ten_ms);
-    let mut b = 0usize;
-    while b < gains.len() {
-        shape_band(lines, limits[b], limits[b + 1], gains[b]);
-        b += 1;
+    for (b, gain) in gains.iter().enumerate() {
+        shape_band(lines, limits[b], limits[b + 1], *gain);
     }
 }

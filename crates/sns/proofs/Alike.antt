@@ -23,11 +23,9 @@ use Rattle.frame_fields.specs.Accepted.{Accepted}
 use Rattle.decoder.specs.Decoded.{field_factors}
 use Rattle.decoder.proofs.Claims.{within_11}
 use Rattle.interpolation.specs.Bands.{count_ok, band_limit, interpolated}
-use Rattle.refusals.specs.declared.Answer.{Answer}
-use Rattle.refusals.specs.declared.Answer.TheVariants.{Done}
 use Rattle.refusals.proofs.Pinned.{fills}
-use Rattle.refusals.specs.Answers.{kept}
-use Rattle.sns_encode.specs.Encode.{fields_of, encoded_as}
+use Rattle.refusals.specs.Answers.{Answer, Done, giving, kept}
+use Rattle.sns_encode.specs.Encode.{fields_of, encoded_of}
 use Rattle.sns_encode.proofs.Claims.{encode_fills}
 use Rattle.sns_decode.specs.Decode.{decode_answer}
 use Rattle.sns_decode.proofs.Claims.{decode_takes}
@@ -79,12 +77,11 @@ frames_there factors old other e l =
     let q = quantized_of factors in
     let f : Frame factors q.stage2.scfq q.stage2.scfq =
     record {
-      encoded = encoded_as Done q;
+      encoded = encoded_of q;
       decoded = Done;
       old = old;
       other = other;
-      encodes = (ap (λ a. encoded_as a q) (sym e), ap (λ a. kept a q.stage2.scfq old) (sym e));
-      done = refl;
+      encodes = (ap (λ a. giving a (encoded_of q)) (sym e), ap (λ a. kept a q.stage2.scfq old) (sym e));
       sixteen = l;
       decodes = (rw l (sym (decodes_again factors).0), both_alike factors);
     } in
@@ -92,7 +89,7 @@ frames_there factors old other e l =
 
 pub calls_alike : CallsAlike
 calls_alike factors sent got f =
-    let e = encode_fills factors f.old f.encoded sent f.encodes f.done in
+    let e = encode_fills factors f.old f.encoded sent f.encodes in
     let i : f.encoded.fields ≡ fields_of (quantized_of factors) = ap (λ r. r.fields) e.0 in
     let d = fills (decode_answer f.encoded.fields (length f.other)) (field_factors f.encoded.fields) f.other f.decoded got f.decodes (rw (i, f.sixteen) (decodes_again factors).0) in
     (d.0, e.1 ∙ both_alike factors ∙ sym (ap field_factors i) ∙ sym d.1)
@@ -107,7 +104,7 @@ one_end factors sent count old a bands e c l s =
 pub bands_alike : BandsAlike
 bands_alike factors count bands bands' b =
     let f = b.frame in
-    let e = (encode_fills factors f.old f.encoded b.sent f.encodes f.done).1 in
+    let e = (encode_fills factors f.old f.encoded b.sent f.encodes).1 in
     let s = (calls_alike factors b.sent b.got f).1 in
     let here = one_end factors b.sent count b.old b.answer bands e b.count_ok b.long b.here in
     let there = one_end factors b.got count b.old' b.answer' bands' (sym s ∙ e) b.count_ok b.long' b.there in

@@ -18,6 +18,8 @@ use Rattle.sns.specs.Demands.{Answered, Kept, Taken, Numbered, Unbeaten, Alike}
 pub answered : Answered
 answered =
     record {
+      number_above = refusals.number_above;
+      number_own = refusals.number_own;
       refused_exactly = refusals.refused_exactly;
       done_exactly = refusals.done_exactly;
       check_pinned = check.check_pinned;

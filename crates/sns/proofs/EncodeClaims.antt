@@ -18,7 +18,7 @@ use Rattle.stage2.proofs.Steps.{chosen_gain}
 use Rattle.encoder.specs.Quantized.{quantized_of}
 use Rattle.encoder.proofs.Claims.{all_nearest}
 use Rattle.encoder.proofs.Inside.{inside}
-use Rattle.refusals.specs.declared.Answer.TheVariants.{Done}
+use Rattle.refusals.specs.Answers.{Done}
 use Rattle.sns_encode.specs.Encode.{encode_questions, encode_answer, fields_of}
 use Rattle.sns.specs.EncodeClaims.{AllAnswered, NoneBeats, NoGainBeats, DecodesAgain}
 use Rattle.sns_decode.proofs.Claims.{decode_takes}
@@ -33,8 +33,8 @@ all_answered factors = record { low = refl; high = refl; shape = refl; gain = re
 taken_bounded : (factors : List Float) (len : ℕ) → encode_answer factors len ≡ Done → Bounded 16 512 factors
 unfolding encode_questions
 taken_bounded factors len e n h =
-    let a = done 9 0 _ _ e in
-    let b = done 9 0 _ _ a.1 in
+    let a = done _ 0 _ _ e in
+    let b = done _ 0 _ _ a.1 in
     let l = eqb-true (length factors) 16 (not-false _ a.0) in
     within_up (get_or factors n nan) 64 1 512 1 (lit< tt) (lit≤ tt)
     (within_limit factors b.1 n (subst (λ (m : ℕ). n < m) (sym l) h))

@@ -1,13 +1,12 @@
 -- Both ends shape alike: what the encoder synthesises is what the decoder makes of its answer; and so, after it, the bands and the lines.
 -- Definitions only; the proofs are in proofs/Alike.antt.
-use Rattle.std.specs.Prelude.{◌≡◌, Bool, true, List, ℕ, ◌<◌, length, get_or, Float}
+use Rattle.std.specs.Prelude.{◌≡◌, Bool, true, List, ℕ, ◌<◌, length, get_or, Float, Ok}
 use Rattle.std.specs.Float.{nan}
 use Rattle.float_laws.specs.Size.{Within}
 use Rattle.encoder.specs.Quantized.{quantized_of}
 use Rattle.decoder.specs.Decoded.{field_factors}
 use Rattle.interpolation.specs.Bands.{count_ok}
-use Rattle.refusals.specs.declared.Answer.{Answer}
-use Rattle.refusals.specs.declared.Answer.TheVariants.{Done}
+use Rattle.refusals.specs.Answers.{Answer, Done}
 use Rattle.sns_encode.specs.declared.Encoded.{Encoded}
 use Rattle.sns_encode.specs.Encode.{encode_answer, fields_of, EncodeSays}
 use Rattle.sns_decode.specs.Decode.{DecodeSays}
@@ -33,8 +32,7 @@ pub record Frame (factors sent got : List Float) : Type 0 where
   pub decoded : Answer
   pub old : List Float
   pub other : List Float
-  pub encodes : EncodeSays factors old encoded sent
-  pub done : encoded.answer ≡ Done
+  pub encodes : EncodeSays factors old (Ok encoded) sent
   pub sixteen : length other ≡ 16
   pub decodes : DecodeSays encoded.fields other decoded got
 

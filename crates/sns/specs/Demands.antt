@@ -15,10 +15,12 @@ use Rattle.sns_number.specs.Claims as number
 use Rattle.sns.specs.EncodeClaims as third
 use Rattle.sns.specs.Alike as alike
 
--- 1. Any numbers and any buffers get an answer. A call is refused with the first of its questions that is given, always then and only
--- then, and done exactly when none is; two results that a call's statement allows are equal, and so are the buffers; one factor has
--- the number that it has in a row of factors; encode has the number 0 only where it is done.
+-- 1. Any numbers and any buffers get an answer. Each refusal has a number above 0, and one of its own. A call is refused with the first of
+-- its questions that is given, always then and only then, and done exactly when none is; two results that a call's statement allows are
+-- equal, and so are the buffers; one factor has the number that it has in a row of factors; encode has the number 0 only where it is done.
 pub record Answered : Type 0 where
+  pub number_above : refusals.NumberAbove
+  pub number_own : refusals.NumberOwn
   pub refused_exactly : refusals.RefusedExactly
   pub done_exactly : refusals.DoneExactly
   pub check_pinned : check.CheckPinned

@@ -9,7 +9,7 @@ use Rattle.stage2.specs.Stage2.{choice_of, signed_for}
 use Rattle.stage2.specs.Claims.{distortion_with}
 use Rattle.encoder.specs.Quantized.{quantized_of}
 use Rattle.encoder.specs.Claims.{NearestFirst}
-use Rattle.refusals.specs.declared.Answer.TheVariants.{Done}
+use Rattle.refusals.specs.Answers.{Done}
 use Rattle.sns_decode.specs.Decode.{decode_answer}
 use Rattle.decoder.specs.Decoded.{field_pulses}
 use Rattle.sns_encode.specs.Encode.{encode_answer, fields_of}

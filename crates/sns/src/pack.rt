@@ -1,1 +1,2 @@
-pub use sns_number::pack::{Packed, pack};
+pub use numbering::Numbered;
+pub use sns_number::pack::pack;

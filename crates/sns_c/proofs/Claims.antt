@@ -1,15 +1,15 @@
 -- The claims of specs/Claims.antt: every field is given by an equation. Assumes nothing.
-use mathlib.Core.Path.{◌≡◌, sym, ap, ◌∙◌}
+use mathlib.Core.Path.{◌≡◌, refl, sym, ap, ◌∙◌}
 use mathlib.Core.List.{List}
 use lib.ListN.{length}
+use Rattle.std.specs.Prelude.{Ok, Err}
 use Rattle.decoder.specs.Decoded.{field_factors}
 use Rattle.encoder.specs.Quantized.{quantized_of}
 use Rattle.encoder.specs.declared.Quantized.{Quantized}
-use Rattle.refusals.specs.declared.Answer.{Answer}
-use Rattle.refusals.specs.declared.Answer.TheVariants.{Done}
-use Rattle.refusals.specs.Answers.{number_of, kept}
-use Rattle.sns_encode.specs.Encode.{fields_of, encode_answer, encoded_as}
-use Rattle.sns_encode.proofs.Claims.{answered_by, encode_zero}
+use Rattle.refusals.specs.declared.Refused.{Refused}
+use Rattle.refusals.specs.Answers.{Answer, Done, giving, number_in, kept}
+use Rattle.sns_encode.specs.Encode.{fields_of, encode_answer, encoded_of}
+use Rattle.sns_encode.proofs.Claims.{encode_zero}
 use Rattle.sns_decode.specs.Decode.{decode_answer}
 use Rattle.sns.proofs.EncodeClaims.{decodes_again}
 use Rattle.sns.proofs.Alike.{both_alike}
@@ -18,7 +18,7 @@ use Rattle.sns_c.specs.declared.Code.{Code}
 use Rattle.sns_c.specs.declared.EncodedCode.{EncodedCode}
 use Rattle.sns_c.specs.declared.PackedCode.{PackedCode}
 use Rattle.sns_c.specs.declared.CheckedCode.{CheckedCode}
-use Rattle.sns_c.specs.Claims.{CodePinned, EncodedPinned, PackedPinned, CheckedPinned, fields_in, CodesAlike}
+use Rattle.sns_c.specs.Claims.{CodePinned, EncodedPinned, PackedPinned, CheckedPinned, fields_in, EncodedKeeps, CodesAlike}
 
 same_code : (r r' : Code) → r.number ≡ r'.number → r.place ≡ r'.place → r ≡ r'
 same_code r r' a b = rw (← a, ← b)
@@ -54,19 +54,30 @@ packed_pinned a r r' s s' =
 pub checked_pinned : CheckedPinned
 checked_pinned a r r' s s' = same_checked r r' (s.number ∙ sym s'.number) (s.value ∙ sym s'.value)
 
+-- after a refusal
+pub encoded_keeps : EncodedKeeps
+encoded_keeps a q old r new refused s e =
+    let i : IsEncoded (Err refused) r = rw e at s.encoded in
+    (i.number, i.place, rw (i.low_row, i.high_row, i.shape, i.gain, i.sign_a, i.sign_b, i.index_a, i.index_b), i.joint_index, s.buffer ∙ ap (λ b. kept b q.stage2.scfq old) e)
+
 -- ---- both ends
+-- what is given besides changes no number
+number_given : {A : Type 0} (a : Answer) (x : A) → number_in a ≡ number_in (giving a x)
+number_given (Ok u) x = refl
+number_given (Err refused) x = refl
+
 -- the fields of an answer that is done
-fields_in_lem : (a : Answer) (q : Quantized) (r : EncodedCode) → a ≡ Done → IsEncoded (encoded_as a q) r → fields_in r ≡ fields_of q
+fields_in_lem : (a : Answer) (q : Quantized) (r : EncodedCode) → a ≡ Done → IsEncoded (giving a (encoded_of q)) r → fields_in r ≡ fields_of q
 fields_in_lem a q r e i = rw (i.low_row, i.high_row, i.shape, i.gain, i.sign_a, i.sign_b, i.index_a, i.index_b, e)
 
 -- a call that is done
 done_code : {A : Type 0} (a : Answer) (filled old : List A) (c : Code) (new : List A) → a ≡ Done → CodeSays a filled old c new → (c.number ≡ 0) × (new ≡ filled)
-done_code a filled old c new e s = (s.code.number ∙ ap number_of e, s.buffer ∙ ap (λ b. kept b filled old) e)
+done_code a filled old c new e s = (s.code.number ∙ ap number_in e, s.buffer ∙ ap (λ b. kept b filled old) e)
 
 pub codes_alike : CodesAlike
 codes_alike factors old other r c sent got s z l d =
     let q = quantized_of factors in
-    let e = encode_zero factors (length old) (sym (ap number_of (answered_by (encode_answer factors (length old)) q)) ∙ sym s.encoded.number ∙ z) in
+    let e = encode_zero factors (length old) (number_given (encode_answer factors (length old)) (encoded_of q) ∙ sym s.encoded.number ∙ z) in
     let f = fields_in_lem _ q r e s.encoded in
     let done = done_code (decode_answer (fields_in r) (length other)) (field_factors (fields_in r)) other c got (rw (f, l) (decodes_again factors).0) d in
     (done.0, s.buffer ∙ ap (λ b. kept b q.stage2.scfq old) e ∙ both_alike factors ∙ sym (ap field_factors f) ∙ sym done.1)

@@ -8,7 +8,7 @@ ghost use Rattle.factor.specs.Check.{factor_limit, checked_of};
 ghost use Rattle.numbering.specs.Numbering.{vector_at};
 ghost use Rattle.interpolation.specs.Bands.{interpolated};
 ghost use Rattle.shaping.specs.Shaping.{shaped_of};
-ghost use Rattle.refusals.specs.Answers.{place_of};
+ghost use Rattle.refusals.specs.Answers.{place_in};
 ghost use Rattle.sns_decode.specs.Decode.{decode_answer};
 ghost use Rattle.decoder.specs.Decoded.{field_factors};
 ghost use Rattle.encoder.specs.Quantized.{quantized_of};
@@ -21,8 +21,9 @@ ghost use Rattle.sns_c.specs.Answers.{IsCode, CodeSays, EncodedSays, IsPacked, I
 
 use factor::Checked;
 use frame_fields::Fields;
-use sns::Answer;
-use sns::pack::Packed;
+use sns::encode::Encoded;
+use sns::pack::Numbered;
+use sns::{Refusal, Refused};
 
 // What a call that fills a buffer answers; 0 and 0 where it is done.
 #[repr(C)]
@@ -67,20 +68,58 @@ pub struct EncodedCode {
     pub index_b: u32,
 }
 
-// No call's place is over 400.
-fn coded(a: Answer) -> Code
-    requires { place_of a ≤ 400 }
-    ensures { IsCode a result }
+// What stands in the encoder's struct where the call is refused. `Fields` has no `Default`: all zeros are a frame that is
+// taken.
+const NOTHING_ENCODED: Encoded = Encoded {
+    fields: Fields {
+        low_row: 0,
+        high_row: 0,
+        shape: 0,
+        gain: 0,
+        sign_a: 0,
+        sign_b: 0,
+        index_a: 0,
+        index_b: 0,
+    },
+    joint_index: 0,
+};
+
+// What stands in packing's struct where the call is refused.
+const NOTHING_PACKED: Numbered = Numbered { index: 0, sign: 0 };
+
+// The number and the place of an answer. No `From`, since it asks that the place fit an u32: no call's is over 400.
+fn coded<T: Copy>(answer: Result<T, Refused>) -> Code
+    requires { place_in answer ≤ 400 }
+    ensures { IsCode answer result }
 {
-    match a {
-        Answer::Done => Code {
+    match answer {
+        Ok(_) => Code {
             number: 0,
             place: 0,
         },
-        Answer::No(number, place) => Code {
-            number: number,
-            place: place as u32,
+        Err(refused) => Code {
+            number: refused.refusal.number(),
+            place: refused.place as u32,
         },
+    }
+}
+
+// The check's number, and its value or 0.0.
+impl From<Checked> for CheckedCode {
+    ghost from_gives = { λ checked code. IsChecked checked code };
+
+    fn from(checked: Checked) -> CheckedCode {
+        match checked {
+            Checked::Within(value) => CheckedCode { number: 0, value },
+            Checked::TooFar(value) => CheckedCode {
+                number: Refusal::TooFar.number(),
+                value,
+            },
+            Checked::NotFinite => CheckedCode {
+                number: Refusal::NotFinite.number(),
+                value: 0.0,
+            },
+        }
     }
 }
 
@@ -89,20 +128,7 @@ fn coded(a: Answer) -> Code
 pub extern "C" fn lc3_sns_check_factor(x: f32) -> CheckedCode
     ensures { IsChecked (checked_of factor_limit x) result }
 {
-    match sns::check_factor::check_factor(x) {
-        Checked::Within(value) => CheckedCode {
-            number: 0,
-            value: value,
-        },
-        Checked::TooFar(value) => CheckedCode {
-            number: 8,
-            value: value,
-        },
-        Checked::NotFinite => CheckedCode {
-            number: 7,
-            value: 0.0,
-        },
-    }
+    sns::check_factor::check_factor(x).into()
 }
 
 // Sixteen factors from the decoder's fields.
@@ -121,14 +147,14 @@ pub extern "C" fn lc3_sns_decode(
     ensures { CodeSays (decode_answer (fields_from low_row high_row shape gain sign_a sign_b index_a index_b) (length factors.old)) (field_factors (fields_from low_row high_row shape gain sign_a sign_b index_a index_b)) factors.old result factors.new }
 {
     let fields = Fields {
-        low_row: low_row,
-        high_row: high_row,
-        shape: shape,
-        gain: gain,
-        sign_a: sign_a,
-        sign_b: sign_b,
-        index_a: index_a,
-        index_b: index_b,
+        low_row,
+        high_row,
+        shape,
+        gain,
+        sign_a,
+        sign_b,
+        index_a,
+        index_b,
     };
     coded(sns::decode::decode(fields, factors))
 }
@@ -138,22 +164,22 @@ pub extern "C" fn lc3_sns_decode(
 pub extern "C" fn lc3_sns_encode(factors: &[f32], out: &mut [f32]) -> EncodedCode
     ensures { EncodedSays (encode_answer factors.now (length out.old)) (quantized_of factors.now) out.old result out.new }
 {
-    let e = sns::encode::encode(factors, out);
-    let f = e.fields;
-    let a = e.answer;
-    let c = coded(a);
+    let answer = sns::encode::encode(factors, out);
+    let code = coded(answer);
+    let encoded = answer.unwrap_or(NOTHING_ENCODED);
+    let fields = encoded.fields;
     EncodedCode {
-        number: c.number,
-        place: c.place,
-        low_row: f.low_row,
-        high_row: f.high_row,
-        shape: f.shape,
-        gain: f.gain,
-        sign_a: f.sign_a,
-        sign_b: f.sign_b,
-        joint_index: e.joint_index,
-        index_a: f.index_a,
-        index_b: f.index_b,
+        number: code.number,
+        place: code.place,
+        low_row: fields.low_row,
+        high_row: fields.high_row,
+        shape: fields.shape,
+        gain: fields.gain,
+        sign_a: fields.sign_a,
+        sign_b: fields.sign_b,
+        joint_index: encoded.joint_index,
+        index_a: fields.index_a,
+        index_b: fields.index_b,
     }
 }
 
@@ -184,19 +210,14 @@ pub extern "C" fn lc3_sns_shape(
 pub extern "C" fn lc3_sns_pack(dimension: u32, pulses: u32, vector: &[i32]) -> PackedCode
     ensures { IsPacked (pack_answer dimension pulses vector.now) result }
 {
-    match sns::pack::pack(dimension, pulses, vector) {
-        Packed::At(index, sign) => PackedCode {
-            number: 0,
-            place: 0,
-            sign: sign,
-            index: index,
-        },
-        Packed::No(number, place) => PackedCode {
-            number: number,
-            place: place as u32,
-            sign: 0,
-            index: 0,
-        },
+    let answer = sns::pack::pack(dimension, pulses, vector);
+    let code = coded(answer);
+    let packed = answer.unwrap_or(NOTHING_PACKED);
+    PackedCode {
+        number: code.number,
+        place: code.place,
+        sign: packed.sign,
+        index: packed.index,
     }
 }
 

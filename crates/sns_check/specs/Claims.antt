@@ -11,4 +11,4 @@ CheckPinned = (x : Float) (r r' : Checked) → CheckSays x r → CheckSays x r' 
 
 -- one factor is refused with the number that it has in a row of factors, at any place
 abbrev pub CheckAsked : Type 0
-CheckAsked = (limit x : Float) (place : ℕ) → refusal_of limit x ≡ answers.number_of (answers.answer_of (element_asked (Factor limit) place x))
+CheckAsked = (limit x : Float) (place : ℕ) → refusal_of limit x ≡ answers.number_in (answers.answer_of (element_asked (Factor limit) place x))

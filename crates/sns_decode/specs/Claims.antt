@@ -2,8 +2,7 @@
 use Rattle.std.specs.Prelude.{◌≡◌, List, ℕ, ◌<◌, ℤ, get_or, Float}
 use Rattle.std.specs.Float.{nan}
 use Rattle.float_laws.specs.Size.{Within}
-use Rattle.refusals.specs.declared.Answer.{Answer}
-use Rattle.refusals.specs.declared.Answer.TheVariants.{Done}
+use Rattle.refusals.specs.Answers.{Answer, Done}
 use Rattle.frame_fields.specs.declared.Fields.{Fields}
 use Rattle.frame_fields.specs.Accepted.{Accepted}
 use Rattle.sns_decode.specs.Decode.{decode_answer, DecodeSays, PulsesSays}

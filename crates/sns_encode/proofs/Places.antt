@@ -5,12 +5,19 @@ use native.Mathlib.Omega.{arith}
 use borrow.Author.Tests.{not-false, eqb-true}
 use lib.ListN.{length}
 use lib.Ieee.{Float}
-use Rattle.refusals.specs.Answers.{place_of}
+use Rattle.std.specs.Prelude.{Ok, Err}
+use Rattle.refusals.specs.Answers.{Answer, giving, place_in}
+use Rattle.sns_encode.specs.declared.Encoded.{Encoded}
 use Rattle.sns_encode.specs.Encode.{encode_questions, encode_answer}
 use Rattle.refusals.proofs.Places.{Most, ask_step, of_elements}
 
-pub encode_place : (factors : List Float) (len : ℕ) → place_of (encode_answer factors len) ≤ 400
+pub encode_place : (factors : List Float) (len : ℕ) (encoded : Encoded) → place_in (giving (encode_answer factors len) encoded) ≤ 400
 unfolding Most encode_questions
-encode_place factors len =
-    ask_step 9 0 _ _ tt (λ a. ask_step 9 0 _ _ tt (λ b.
-    of_elements _ 0 factors (omega (arith, eqb-true (length factors) 16 (not-false _ a)))))
+encode_place factors len encoded =
+    by (encode_answer factors len)
+    (ask_step _ 0 _ _ tt (λ a. ask_step _ 0 _ _ tt (λ b.
+    of_elements _ 0 factors (omega (arith, eqb-true (length factors) 16 (not-false _ a))))))
+  where
+    by : (a : Answer) → place_in a ≤ 400 → place_in (giving a encoded) ≤ 400
+    by (Ok u) h = h
+    by (Err refused) h = h

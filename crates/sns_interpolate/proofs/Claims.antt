@@ -3,7 +3,7 @@ use mathlib.Core.Path.{◌≡◌, sym}
 use borrow.Author.Tests.{not-false, eqb-true}
 use lib.ListN.{length}
 use Rattle.interpolation.specs.Bands.{interpolated, band_limit}
-use Rattle.refusals.specs.declared.Answer.TheVariants.{Done}
+use Rattle.refusals.specs.Answers.{Done}
 use Rattle.refusals.specs.declared.Element.TheVariants.{Factor}
 use Rattle.sns_interpolate.specs.Interpolate.{interpolate_answer, interpolate_questions}
 use Rattle.sns_interpolate.specs.Claims.{InterpolatePinned, InterpolateKeeps, InterpolateTaken, InterpolateTakes}
@@ -27,9 +27,9 @@ interpolate_takes factors count len = (there, back)
 
     back : interpolate_answer factors count len ≡ Done → InterpolateTaken factors count len
     back e =
-        let a = done 11 0 _ _ e in
-        let b = done 9 0 _ _ a.1 in
-        let d = done 9 0 _ _ b.1 in
+        let a = done _ 0 _ _ e in
+        let b = done _ 0 _ _ a.1 in
+        let d = done _ 0 _ _ b.1 in
         record {
           count_ok = not-false _ a.0;
           sixteen = eqb-true _ 16 (not-false _ b.0);

@@ -4,8 +4,7 @@ use Rattle.float_laws.specs.Kind.{finite}
 use Rattle.list_laws.specs.Every.{both, every}
 use Rattle.factor.specs.Check.{beyond}
 use Rattle.interpolation.specs.Bands.{band_limit, count_ok}
-use Rattle.refusals.specs.declared.Answer.{Answer}
-use Rattle.refusals.specs.declared.Answer.TheVariants.{Done}
+use Rattle.refusals.specs.Answers.{Answer, Done}
 use Rattle.sns_interpolate.specs.Interpolate.{interpolate_answer, InterpolateSays}
 use Rattle.refusals.specs.Claims.{Keeps}
 

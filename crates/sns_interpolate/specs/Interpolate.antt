@@ -1,17 +1,17 @@
 -- Interpolating sixteen factors to bands. Definitions only.
 use Rattle.std.specs.Prelude.{◌≡◌, not, List, ◌∷◌, ℕ, eqb, length, Float}
 use Rattle.interpolation.specs.Bands.{band_limit, count_ok, interpolated}
-use Rattle.refusals.specs.declared.Answer.{Answer}
+use Rattle.refusals.specs.declared.Refusal.TheVariants.{BandCount, Length}
 use Rattle.refusals.specs.declared.Element.TheVariants.{Factor}
-use Rattle.refusals.specs.Answers.{Question, ask, answer_of, kept}
+use Rattle.refusals.specs.Answers.{Answer, Question, ask, answer_of, kept}
 use Rattle.refusals.specs.Elements.{element_questions}
 
 -- 11: the band count isn't 60 or 64. 9: a lent buffer has the wrong length (factors 16, bands the band count). Then the factors by place.
 unfoldable pub interpolate_questions : List Float → ℕ → ℕ → List Question
 interpolate_questions factors count len =
-    ask 11 0 (not (count_ok count)) ∷
-    ask 9 0 (not (eqb (length factors) 16)) ∷
-    ask 9 0 (not (eqb len count)) ∷
+    ask BandCount 0 (not (count_ok count)) ∷
+    ask Length 0 (not (eqb (length factors) 16)) ∷
+    ask Length 0 (not (eqb len count)) ∷
     element_questions (Factor band_limit) 0 factors
 
 abbrev pub interpolate_answer : List Float → ℕ → ℕ → Answer

@@ -1,18 +1,14 @@
 -- The claims of specs/Claims.antt. Assumes nothing.
-use mathlib.Core.Path.{◌≡◌, refl, sym, ap, ◌∙◌}
-use Prim.Native.Nat.{ℕ}
-use native.Mathlib.Omega.{arith}
+use mathlib.Core.Path.{◌≡◌, refl, sym, ◌∙◌}
 use borrow.Author.Tests.{not-false, leb-false, eqb-true}
 use lib.ListN.{length}
+use Rattle.std.specs.Prelude.{Ok, Err}
 use Rattle.numbering.specs.Numbering.{lead_sign, index_of, vector_at}
 use Rattle.numbering.proofs.Claims.{claim}
-use Rattle.refusals.specs.declared.Answer.{Answer}
-use Rattle.refusals.specs.declared.Answer.TheVariants.{Done, No}
-use Rattle.sns_number.specs.declared.pack.Packed.{Packed}
-use Rattle.sns_number.specs.declared.pack.Packed.TheVariants.{At}
-use Rattle.refusals.specs.Answers.{answer_of}
+use Rattle.numbering.specs.declared.Numbered.{Numbered}
+use Rattle.refusals.specs.Answers.{Answer, Done, answer_of, giving}
 use Rattle.sns_number.specs.Unpack.{unpack_questions, unpack_answer}
-use Rattle.sns_number.specs.Pack.{pack_questions, packed_as}
+use Rattle.sns_number.specs.Pack.{pack_questions, numbered_of}
 use Rattle.sns_number.specs.Claims.{UnpackPinned, PackPinned, UnpackKeeps, UnpackTaken, UnpackTakes, PackTakes, UnpackThenPack, PackThenUnpack}
 use Rattle.refusals.proofs.Answers.{done}
 use Rattle.sns_number.proofs.Pairs.{small}
@@ -38,10 +34,10 @@ unpack_takes n k s i len = (there, back)
 
     back : answer_of (unpack_questions n k s i len) ≡ Done → UnpackTaken n k s i len
     back e =
-        let a = done 10 0 _ _ e in
-        let b = done 9 0 _ _ a.1 in
-        let d = done 4 0 _ _ b.1 in
-        let f = done 5 0 _ _ d.1 in
+        let a = done _ 0 _ _ e in
+        let b = done _ 0 _ _ a.1 in
+        let d = done _ 0 _ _ b.1 in
+        let f = done _ 0 _ _ d.1 in
         record {
           pair = not-false _ a.0;
           long = eqb-true len n (not-false _ b.0);
@@ -50,20 +46,16 @@ unpack_takes n k s i len = (there, back)
         }
 
 -- a packed index comes from a call that is done
-at_done : (a : Answer) (i s i' s' : ℕ) → packed_as a i s ≡ At i' s' → a ≡ Done
-at_done Done i s i' s' e = refl
-at_done (No number place) i s i' s' e = absurd (let q : ◌≡◌ {A = ℕ} 0 1 = ap flag e in omega arith)
-  where
-    flag : Packed → ℕ
-    flag (At x y) = 1
-    flag (Packed.No x y) = 0
+at_done : (a : Answer) (m m' : Numbered) → giving a m ≡ Ok m' → a ≡ Done
+at_done (Ok u) m m' e = refl
+at_done (Err refused) m m' e = cc
 
 pub pack_takes : PackTakes
 unfolding pack_questions
 pack_takes n k i s v e =
-    let a = done 10 0 _ _ (at_done _ _ _ i s e) in
-    let b = done 9 0 _ _ a.1 in
-    let d = done 6 0 _ _ b.1 in
+    let a = done _ 0 _ _ (at_done _ (numbered_of v) (record { index = i; sign = s }) e) in
+    let b = done _ 0 _ _ a.1 in
+    let d = done _ 0 _ _ b.1 in
     (not-false _ a.0, record { places = eqb-true (length v) n (not-false _ b.0); pulses = eqb-true _ k (not-false _ d.0) })
 
 pub unpack_pack : UnpackThenPack

@@ -9,8 +9,7 @@ use mir.Facts.{and_yes}
 use Rattle.float_laws.proofs.Logic.{yes, or_split}
 use Rattle.mpvq_offsets.specs.Offsets.{size_of}
 use Rattle.shapes.specs.declared.PulseSet.{PulseSet}
-use Rattle.shapes.specs.declared.Found.{Found}
-use Rattle.shapes.specs.declared.Found.TheVariants.{Set, Nothing}
+use Rattle.std.specs.Prelude.{Option, Some, None}
 use Rattle.shapes.specs.Sets.{set_of, same_pair, paired, found_of}
 
 -- the four pairs have at most sixteen places, and from one to ten pulses
@@ -42,13 +41,13 @@ small n k e = last (or_split (same_pair n k 10 10 || same_pair n k 6 1 || same_p
     last (inr t) = at 16 6 t (omega arith) (omega arith) (omega arith)
 
 -- the set that was found, or another
-set_in : Found → PulseSet → PulseSet
-set_in (Set s) other = s
-set_in Nothing other = other
+set_in : Option PulseSet → PulseSet → PulseSet
+set_in (Some s) other = s
+set_in None other = other
 
-is_set : Found → Bool
-is_set (Set s) = true
-is_set Nothing = false
+is_set : Option PulseSet → Bool
+is_set (Some s) = true
+is_set None = false
 
 -- what is known of the set of a pair that was found
 pub record SetOf (n k : ℕ) (s : PulseSet) : Type 0 where
@@ -58,13 +57,13 @@ pub record SetOf (n k : ℕ) (s : PulseSet) : Type 0 where
   pub size : s.size ≡ size_of n k
   pub small : Small n k
 
-pub found_set : (n k : ℕ) (s : PulseSet) → Set s ≡ found_of n k → SetOf n k s
+pub found_set : (n k : ℕ) (s : PulseSet) → Some s ≡ found_of n k → SetOf n k s
 unfolding found_of set_in is_set
 found_set n k s e = go (paired n k) refl
   where
     go : (b : Bool) → paired n k ≡ b → SetOf n k s
     go true p =
-        let q : s ≡ set_of n k = ap (λ f. set_in f s) e ∙ ap (λ b. set_in (cond b (Set (set_of n k)) Nothing) s) p in
+        let q : s ≡ set_of n k = ap (λ f. set_in f s) e ∙ ap (λ b. set_in (cond b (Some (set_of n k)) None) s) p in
         record {
           pair = p;
           dimension = ap (λ (t : PulseSet). t.dimension) q;
@@ -72,12 +71,12 @@ found_set n k s e = go (paired n k) refl
           size = ap (λ (t : PulseSet). t.size) q;
           small = small n k p;
         }
-    go false p = absurd (true≢false (ap is_set e ∙ ap (λ b. is_set (cond b (Set (set_of n k)) Nothing)) p))
+    go false p = absurd (true≢false (ap is_set e ∙ ap (λ b. is_set (cond b (Some (set_of n k)) None)) p))
 
-pub found_nothing : (n k : ℕ) → Nothing ≡ found_of n k → paired n k ≡ false
+pub found_nothing : (n k : ℕ) → None ≡ found_of n k → paired n k ≡ false
 unfolding found_of is_set
 found_nothing n k e = go (paired n k) refl
   where
     go : (b : Bool) → paired n k ≡ b → paired n k ≡ false
-    go true p = absurd (false≢true (ap is_set e ∙ ap (λ b. is_set (cond b (Set (set_of n k)) Nothing)) p))
+    go true p = absurd (false≢true (ap is_set e ∙ ap (λ b. is_set (cond b (Some (set_of n k)) None)) p))
     go false p = p

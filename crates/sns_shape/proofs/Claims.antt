@@ -3,7 +3,7 @@ use mathlib.Core.Path.{◌≡◌, sym}
 use borrow.Author.Tests.{not-false, eqb-true, ltb-false}
 use Rattle.interpolation.specs.Bands.{count_ok}
 use Rattle.shaping.specs.Shaping.{shaped_of}
-use Rattle.refusals.specs.declared.Answer.TheVariants.{Done}
+use Rattle.refusals.specs.Answers.{Done}
 use Rattle.refusals.specs.declared.Element.TheVariants.{Value}
 use Rattle.sns_shape.specs.Shape.{shape_answer, shape_questions}
 use Rattle.sns_shape.specs.Claims.{ShapePinned, ShapeKeeps, ShapeTaken, ShapeTakes}
@@ -38,10 +38,10 @@ shape_takes rate ten count gains lines = (there, back)
 
     back : shape_answer rate ten count gains lines ≡ Done → ShapeTaken rate ten count gains lines
     back e =
-        let a = done 10 0 _ _ e in
-        let b = done 11 0 _ _ a.1 in
-        let g = done 9 0 _ _ b.1 in
-        let l = done 9 0 _ _ g.1 in
+        let a = done _ 0 _ _ e in
+        let b = done _ 0 _ _ a.1 in
+        let g = done _ 0 _ _ b.1 in
+        let l = done _ 0 _ _ g.1 in
         let v = both_done (element_questions Value 0 gains) _ l.1 in
         record {
           rate_most = ltb-false 4 rate a.0;

@@ -13,7 +13,7 @@ use Rattle.list_laws.proofs.Every.{at_below}
 use Rattle.band_index_tables.specs.Bands.{limit_tables, bands_of, last_limit}
 use Rattle.shaping.proofs.Laws.{bands_most}
 use Rattle.interpolation.specs.Bands.{count_ok}
-use Rattle.refusals.specs.Answers.{place_of}
+use Rattle.refusals.specs.Answers.{place_in}
 use Rattle.refusals.specs.declared.Element.TheVariants.{Value}
 use Rattle.refusals.specs.Elements.{element_questions}
 use Rattle.sns_shape.specs.Shape.{shape_questions, shape_answer}
@@ -32,10 +32,10 @@ right false b h = not-false b h
 below : (n : ℕ) → n ≤ 4 → n < 5
 below n h = omega arith
 
-pub shape_place : (rate : ℕ) (ten : Bool) (count : ℕ) (gains lines : List Float) → place_of (shape_answer rate ten count gains lines) ≤ 400
+pub shape_place : (rate : ℕ) (ten : Bool) (count : ℕ) (gains lines : List Float) → place_in (shape_answer rate ten count gains lines) ≤ 400
 unfolding Most shape_questions
 shape_place rate ten count gains lines =
-    ask_step 10 0 _ _ tt (λ a. ask_step 11 0 _ _ tt (λ b. ask_step 9 0 _ _ tt (λ d. ask_step 9 0 _ _ tt (λ e.
+    ask_step _ 0 _ _ tt (λ a. ask_step _ 0 _ _ tt (λ b. ask_step _ 0 _ _ tt (λ d. ask_step _ 0 _ _ tt (λ e.
     let r = below rate (ltb-false 4 rate a) in
     joined _ _ (of_elements Value 0 gains (few (length gains) count (eqb-true _ _ (not-false _ d)) (counted b r))) (lines_most r)))))
   where

@@ -3,8 +3,7 @@ use Rattle.std.specs.Prelude.{◌≡◌, Bool, List, ℕ, ◌≤◌, T, length, 
 use Rattle.float_laws.specs.Kind.{finite}
 use Rattle.list_laws.specs.Every.{every}
 use Rattle.band_index_tables.specs.Bands.{bands_of, last_limit}
-use Rattle.refusals.specs.declared.Answer.{Answer}
-use Rattle.refusals.specs.declared.Answer.TheVariants.{Done}
+use Rattle.refusals.specs.Answers.{Answer, Done}
 use Rattle.sns_shape.specs.Shape.{shape_answer, ShapeSays}
 use Rattle.refusals.specs.Claims.{Keeps}
 

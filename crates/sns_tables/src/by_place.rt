@@ -566,3 +566,22 @@ pub fn hfcb_by_place() -> [[f32; 32]; 8]
 {
     HFCB_BY_PLACE
 }
+
+// Both of them, to be lent on: what they are goes with them.
+#[derive(Drop)]
+pub struct ByPlace {
+    pub low: [[f32; 32]; 8],
+    pub high: [[f32; 32]; 8],
+    ghost low_is: { low ≡ by_place lfcb_rows },
+    ghost high_is: { high ≡ by_place hfcb_rows },
+}
+
+impl ByPlace {
+    // Asked for once.
+    pub fn new() -> Self {
+        ByPlace {
+            low: lfcb_by_place(),
+            high: hfcb_by_place(),
+        }
+    }
+}

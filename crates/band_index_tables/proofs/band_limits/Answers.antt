@@ -4,6 +4,7 @@ use mathlib.Core.Bool.{Bool, true, false}
 use mathlib.Core.List.{List}
 use Prim.Native.Nat.{ℕ}
 use native.Mathlib.Omega.{arith}
+use borrow.Author.Rules.{rules}
 use Rattle.list_laws.specs.ListOf.{list_of}
 use Rattle.band_index_tables.specs.Bands.{limit_tables, limits_of, handed_out}
 use Rattle.band_index_tables.proofs.band_limits.Goals as goal
@@ -12,42 +13,42 @@ use Rattle.band_index_tables.proofs.band_limits.Goals as goal
 arm : (rate k : ℕ) (ten b : Bool) (l : List ℕ) → ten ≡ b → rate ≡ k → l ≡ handed_out (limits_of k b) → l ≡ handed_out (limits_of rate ten)
 arm rate k ten b l p q e = rw (p, q) e
 
-pub returns-in-0 : goal.returns-in-0
+pub returns-in-0-true : goal.returns-in-0-true
 unfolding limit_tables handed_out list_of
-returns-in-0 c = arm _ 0 _ true _ c.if-ten_ms.true (omega arith) refl
+returns-in-0-true c = arm c.args.rate 0 c.args.ten_ms true _ (search rules) (omega arith) refl
 
-pub returns-in-1 : goal.returns-in-1
+pub returns-in-1-true : goal.returns-in-1-true
 unfolding limit_tables handed_out list_of
-returns-in-1 c = arm _ 1 _ true _ c.if-ten_ms.true (omega arith) refl
+returns-in-1-true c = arm c.args.rate 1 c.args.ten_ms true _ (search rules) (omega arith) refl
 
-pub returns-in-2 : goal.returns-in-2
+pub returns-in-2-true : goal.returns-in-2-true
 unfolding limit_tables handed_out list_of
-returns-in-2 c = arm _ 2 _ true _ c.if-ten_ms.true (omega arith) refl
+returns-in-2-true c = arm c.args.rate 2 c.args.ten_ms true _ (search rules) (omega arith) refl
 
-pub returns-in-3 : goal.returns-in-3
+pub returns-in-3-true : goal.returns-in-3-true
 unfolding limit_tables handed_out list_of
-returns-in-3 c = arm _ 3 _ true _ c.if-ten_ms.true (omega arith) refl
+returns-in-3-true c = arm c.args.rate 3 c.args.ten_ms true _ (search rules) (omega arith) refl
 
-pub returns-in_default : goal.returns-in_default
+pub returns-in_default-true : goal.returns-in_default-true
 unfolding limit_tables handed_out list_of
-returns-in_default c = arm _ 4 _ true _ c.if-ten_ms.true (omega arith) refl
+returns-in_default-true c = arm c.args.rate 4 c.args.ten_ms true _ (search rules) (omega arith) refl
 
-pub returns-in-0-rate : goal.returns-in-0-rate
+pub returns-in-0-false : goal.returns-in-0-false
 unfolding limit_tables handed_out list_of
-returns-in-0-rate c = arm _ 0 _ false _ c.if-ten_ms.false (omega arith) refl
+returns-in-0-false c = arm c.args.rate 0 c.args.ten_ms false _ (search rules) (omega arith) refl
 
-pub returns-in-1-rate : goal.returns-in-1-rate
+pub returns-in-1-false : goal.returns-in-1-false
 unfolding limit_tables handed_out list_of
-returns-in-1-rate c = arm _ 1 _ false _ c.if-ten_ms.false (omega arith) refl
+returns-in-1-false c = arm c.args.rate 1 c.args.ten_ms false _ (search rules) (omega arith) refl
 
-pub returns-in-2-rate : goal.returns-in-2-rate
+pub returns-in-2-false : goal.returns-in-2-false
 unfolding limit_tables handed_out list_of
-returns-in-2-rate c = arm _ 2 _ false _ c.if-ten_ms.false (omega arith) refl
+returns-in-2-false c = arm c.args.rate 2 c.args.ten_ms false _ (search rules) (omega arith) refl
 
-pub returns-in-3-rate : goal.returns-in-3-rate
+pub returns-in-3-false : goal.returns-in-3-false
 unfolding limit_tables handed_out list_of
-returns-in-3-rate c = arm _ 3 _ false _ c.if-ten_ms.false (omega arith) refl
+returns-in-3-false c = arm c.args.rate 3 c.args.ten_ms false _ (search rules) (omega arith) refl
 
-pub returns-in_default-rate : goal.returns-in_default-rate
+pub returns-in_default-false : goal.returns-in_default-false
 unfolding limit_tables handed_out list_of
-returns-in_default-rate c = arm _ 4 _ false _ c.if-ten_ms.false (omega arith) refl
+returns-in_default-false c = arm c.args.rate 4 c.args.ten_ms false _ (search rules) (omega arith) refl

@@ -1,19 +1,17 @@
--- The loop fills the candidate from its first place up.
-use mathlib.Core.Path.{refl}
-use native.Mathlib.Omega.{arith}
-use Rattle.list_laws.proofs.Fill.{over_none, over_more}
-use Rattle.list_laws.proofs.Full.{full}
+-- The array is the list of the definition.
+use mathlib.Core.Path.{◌≡◌, ◌∙◌}
+use borrow.Author.Rules.{rules}
+use lib.ListN.{get_or}
+use lib.Ieee.{nan, binary32, div}
+use Rattle.list_laws.proofs.FromFn.{from_fn_is}
 use Rattle.pulse_length.proofs.FloatLaws.{float_at}
 use Rattle.candidates.specs.Candidate.{candidate_of}
-use borrow.Author.Rules.{rules}
 use Rattle.candidates.proofs.normalize_candidate.Goals as goal
-
-pub loop-n-init : goal.loop-n-init
-loop-n-init c = (search rules, over_none _ _)
-
-pub loop-n-preserved : goal.loop-n-preserved
-loop-n-preserved c = (search rules, over_more _ _ _ _ _ c.loop-n.invariant.1 (rw (c.floats-x.ensures, c.length-length.ensures, float_at _ c.requires.1.places _ c.loop-n-test.true)))
 
 pub returns : goal.returns
 unfolding candidate_of
-returns c = full _ 16 _ _ _ c.loop-n.invariant.1 (omega arith) refl
+returns c =
+    from_fn_is _ _ _ 16 _ nan c.from_fn.ensures.items
+    (λ i y q h k.
+    let r : y ≡ div binary32 (get_or c.floats-x.result i nan) c.length-length.result = search rules in
+    (search rules, r ∙ rw (c.floats-x.ensures, c.length-length.ensures, float_at _ c.args.y.now.sixteen.places i h)))

@@ -7,11 +7,7 @@ pub pulses-y-requires : goal.pulses-y-requires
 pulses-y-requires c = c.requires.tables.shape_below
 
 pub factors-requires : goal.factors-requires
-factors-requires c =
-    record {
-      lfcb_value = (c.lfcb-lfcb.ensures, c.hfcb-hfcb.ensures, c.roots-roots.ensures);
-      synthesisable = rw c.pulses-y.ensures (synthesisable _ c.requires);
-    }
+factors-requires c = rw c.pulses-y.ensures (synthesisable _ c.requires)
 
 pub returns : goal.returns
 returns c = c.factors.ensures ∙ rw c.pulses-y.ensures

@@ -2,4 +2,4 @@
 use Rattle.decoder.proofs.pulses.Goals as goal
 
 pub returns : goal.returns
-returns c = rw c.numbers.ensures at c.pulses.ensures
+returns c = rw c.from.ensures at c.pulses.ensures

@@ -1,17 +1,16 @@
 -- The loop is the running sum.
 use mathlib.Core.Path.{◌≡◌, refl}
 use native.Mathlib.Omega.{arith}
-use borrow.Author.Rules.{rules}
 use Rattle.float_laws.proofs.Running.{sum_none, sum_more}
 use Rattle.projection.proofs.sum.Goals as goal
 
-pub loop-n-init : goal.loop-n-init
-loop-n-init c = (search rules, sum_none _)
+pub loop-x-init : goal.loop-x-init
+loop-x-init c = sum_none _
 
-pub loop-n-preserved : goal.loop-n-preserved
-loop-n-preserved c = (search rules, sum_more _ _ _ _ c.loop-n.invariant.1 refl)
+pub loop-x-preserved : goal.loop-x-preserved
+loop-x-preserved c = sum_more _ _ _ _ c.loop-x.invariant refl
 
 pub returns : goal.returns
 returns c =
-    let e : c.loop-n.n ≡ 16 = omega arith in
-    rw e at c.loop-n.invariant.1
+    let e : c.loop-x.x-index ≡ 16 = omega arith in
+    rw e at c.loop-x.invariant

@@ -1,18 +1,10 @@
--- The loop fills the lanes from the first up.
-use mathlib.Core.Path.{refl}
-use native.Mathlib.Omega.{arith}
-use borrow.Author.Rules.{rules}
-use Rattle.list_laws.proofs.Fill.{over_none, over_more}
-use Rattle.list_laws.proofs.Full.{full}
+-- Each lane by itself.
+use Rattle.std.proofs.Common.{rules}
+use lib.Ieee.{nan}
+use Rattle.list_laws.proofs.FromFn.{from_fn_is}
 use Rattle.pulse_guess.specs.Lanes.{first_of}
 use Rattle.pulse_guess.proofs.first_places.Goals as goal
 
-pub loop-n-init : goal.loop-n-init
-loop-n-init c = (search rules, over_none _ _)
-
-pub loop-n-preserved : goal.loop-n-preserved
-loop-n-preserved c = (search rules, over_more _ _ _ _ _ c.loop-n.invariant.1 c.up_to_last.ensures)
-
 pub returns : goal.returns
 unfolding first_of
-returns c = full _ 16 _ _ _ c.loop-n.invariant.1 (omega arith) refl
+returns c = from_fn_is _ _ _ 16 _ nan c.from_fn.ensures.items (λ i y q h k. search rules)

@@ -5,7 +5,4 @@ use Rattle.shape_search.specs.Shape.{largest_to}
 use Rattle.shape_search.proofs.largest_high.Given as goal
 
 abbrev pub invariant-loop-n : goal.invariant-loop-n
-invariant-loop-n l = (l.n ≤ 5) × (l.n_best ≡ largest_to l.abs_x l.n) × (l.n_best ≤ 15)
-
-abbrev pub decreases-loop-n : goal.decreases-loop-n
-decreases-loop-n l = 5 - l.n
+invariant-loop-n l = (l.n_best ≡ largest_to l.abs_x (l.n - 11)) × (l.n_best ≤ 15)

@@ -1,27 +1,30 @@
 -- The loop is the definition, a place at a time.
-use mathlib.Core.Path.{◌≡◌, refl, ◌∙◌, ap}
-use Prim.Native.Nat.{◌+◌}
+use mathlib.Core.Path.{◌≡◌, refl}
+use mathlib.Core.List.{List}
+use Prim.Native.Nat.{ℕ, suc, ◌+◌, ◌-◌, ◌≤◌}
 use native.Mathlib.Omega.{arith}
-use native.Mathlib.Numerals.{add-one}
 use borrow.Author.Rules.{rules}
 use lib.ListN.{get_or}
-use lib.Ieee.{nan}
+use lib.Ieee.{Float, nan, binary32, sub}
 use Rattle.pulse_search.specs.declared.SearchRecord.{SearchRecord}
 use Rattle.shape_search.specs.Shape.{dropped, dropped_to}
 use Rattle.shape_search.proofs.without_high.Goals as goal
 
+dropped_more : (a : List Float) (y : List ℕ) (p r : SearchRecord) (n : ℕ) → 10 ≤ n → r ≡ dropped_to a y p (n - 10) → dropped r (get_or y n 0) (get_or a n nan) ≡ dropped_to a y p (n + 1 - 10)
+unfolding dropped_to
+dropped_more a y p r n h e =
+    let k : n + 1 - 10 ≡ suc (n - 10) = omega arith in
+    let m : 10 + (n - 10) ≡ n = omega arith in
+    rw (e, k, m)
+
 pub loop-n-init : goal.loop-n-init
 unfolding dropped_to
-loop-n-init c = (search rules, refl)
+loop-n-init c = refl
 
 pub loop-n-preserved : goal.loop-n-preserved
-unfolding dropped_to
-loop-n-preserved c =
-    let l = c.loop-n in
-    let a = c.args in
-    (search rules, rw add-one (c.leave-p.ensures ∙ ap (λ (z : SearchRecord). dropped z (get_or a.y.now (10 + l.n) 0) (get_or a.abs_x.now (10 + l.n) nan)) l.invariant.1))
+loop-n-preserved c = rw (c.with_terms-p.ensures (sub binary32) (λ a b r h. search rules)) (dropped_more _ _ _ _ _ (omega arith) c.loop-n.invariant)
 
 pub returns : goal.returns
 returns c =
-    let e : c.loop-n.n ≡ 6 = omega arith in
-    rw e at c.loop-n.invariant.1
+    let e : c.loop-n.n ≡ 16 = omega arith in
+    rw e at c.loop-n.invariant

@@ -1,28 +1,24 @@
--- The four cases of rate and frame length.
+-- 60 bands at rate index 0 and 7.5 ms, and 64 elsewhere.
 use mathlib.Core.Path.{◌≡◌, refl}
-use mathlib.Core.Bool.{Bool, true, false}
+use mathlib.Core.Bool.{Bool}
 use Prim.Native.Nat.{ℕ, zero, suc}
 use Rattle.band_index_tables.specs.Bands.{bands_of}
 use Rattle.shaping.proofs.bands_of.Goals as goal
+use Rattle.shaping.proofs.bands_of.Goals.{else-rate-eq0-via-then-rate-eq0+else-not-ten_ms, else-rate-eq0-via-else-rate-eq0}
 
 later : (rate : ℕ) (ten : Bool) → (rate ≡ 0 → ⊥) → 64 ≡ bands_of rate ten
 unfolding bands_of
 later zero ten h = absurd (h refl)
 later (suc rate) ten h = refl
 
-ten : (rate : ℕ) (t : Bool) → rate ≡ 0 → t ≡ true → 64 ≡ bands_of rate t
+pub returns-then-not-ten_ms : goal.returns-then-not-ten_ms
 unfolding bands_of
-ten rate t h e = rw (h, e)
+returns-then-not-ten_ms c = rw (c.if-rate-eq0.true, c.if-not-ten_ms.true)
 
-shorter : (rate : ℕ) (t : Bool) → rate ≡ 0 → t ≡ false → 60 ≡ bands_of rate t
+pub returns-else-rate-eq0 : goal.returns-else-rate-eq0
 unfolding bands_of
-shorter rate t h e = rw (h, e)
-
-pub returns-then-rate-ne0 : goal.returns-then-rate-ne0
-returns-then-rate-ne0 c = later _ _ c.if-rate-ne0.true
-
-pub returns-then-ten_ms : goal.returns-then-ten_ms
-returns-then-ten_ms c = ten _ _ c.if-rate-ne0.false c.if-ten_ms.true
-
-pub returns : goal.returns
-returns c = shorter _ _ c.if-rate-ne0.false c.if-ten_ms.false
+returns-else-rate-eq0 c =
+    elim c.else-rate-eq0.branch [
+      | else-rate-eq0-via-then-rate-eq0+else-not-ten_ms w ↦ rw (w.if-rate-eq0.true, w.if-not-ten_ms.false)
+      | else-rate-eq0-via-else-rate-eq0 w ↦ later _ _ w.if-rate-eq0.false
+    ]

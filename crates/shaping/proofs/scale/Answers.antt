@@ -1,4 +1,4 @@
--- The lines up to i are multiplied, and the rest are as they were.
+-- The lines up to the one that is next are multiplied, and the rest are as they were.
 use mathlib.Core.Path.{ap}
 use native.Mathlib.Omega.{arith}
 use native.Mathlib.Nat.{le_refl}
@@ -7,17 +7,16 @@ use Rattle.list_laws.proofs.InPlace.{passed_start, passed_step}
 use Rattle.shaping.proofs.Laws.{scaled_all}
 use Rattle.shaping.proofs.scale.Goals as goal
 
-pub loop-i-init : goal.loop-i-init
-loop-i-init c = (omega arith, passed_start _ _ _)
+pub loop-line-init : goal.loop-line-init
+loop-line-init c = passed_start _ _ _
 
-pub loop-i-preserved : goal.loop-i-preserved
-loop-i-preserved c =
-    let l = c.loop-i in
-    let a = c.args in
-    let p = l.invariant.1 in
-    (omega (arith, p.same), passed_step nan _ a.lines.now l.lines l.i _ (omega (arith, p.same)) (ap (λ (x : Float). mul binary32 x a.gain) (p.rest l.i (le_refl _))) p)
+pub loop-line-preserved : goal.loop-line-preserved
+loop-line-preserved c =
+    let l = c.loop-line in
+    let p = l.invariant in
+    passed_step nan _ c.args.lines.now l.line-items l.line-index _ (omega (arith, p.same)) (ap (λ (x : Float). mul binary32 x c.args.gain) (p.rest l.line-index (le_refl _))) p
 
 pub returns : goal.returns
 returns c =
-    let l = c.loop-i in
-    scaled_all _ _ _ l.i (omega (arith, l.invariant.1.same)) l.invariant.1
+    let l = c.loop-line in
+    scaled_all _ _ _ l.line-index (omega (arith, l.invariant.same)) l.invariant

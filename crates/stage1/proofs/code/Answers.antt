@@ -4,7 +4,7 @@ use Rattle.stage1.proofs.Codes.{low_code, high_code}
 use Rattle.stage1.proofs.code.Goals as goal
 
 pub returns-then-n-lt8 : goal.returns-then-n-lt8
-returns-then-n-lt8 c = low_code _ _ _ _ c.requires.lfcb_value.0 c.requires.lf_bound.0 (omega arith)
+returns-then-n-lt8 c = low_code _ _ _ _ c.args.codebooks.now.low_is c.requires.0 (omega arith)
 
-pub returns : goal.returns
-returns c = high_code _ _ _ _ c.requires.lfcb_value.1 c.requires.lf_bound.1 (omega arith) (omega arith)
+pub returns-else-n-lt8 : goal.returns-else-n-lt8
+returns-else-n-lt8 c = high_code _ _ _ _ c.args.codebooks.now.high_is c.requires.1 (omega arith) (omega arith)

@@ -1,16 +1,8 @@
--- One code a turn.
-use mathlib.Core.Path.{refl}
-use native.Mathlib.Omega.{arith}
-use Rattle.list_laws.proofs.Fill.{over_none, over_more}
-use Rattle.list_laws.proofs.Full.{full}
-use borrow.Author.Rules.{rules}
+-- Each place by the call for it.
+use Rattle.std.proofs.Common.{rules}
+use lib.Ieee.{nan}
+use Rattle.list_laws.proofs.FromFn.{from_fn_is}
 use Rattle.stage1.proofs.first_stage_vector.Goals as goal
 
-pub loop-n-init : goal.loop-n-init
-loop-n-init c = (search rules, over_none _ _)
-
-pub loop-n-preserved : goal.loop-n-preserved
-loop-n-preserved c = (search rules, over_more _ _ _ _ _ c.loop-n.invariant.1 c.code.ensures)
-
 pub returns : goal.returns
-returns c = full _ _ _ _ _ c.loop-n.invariant.1 (omega arith) refl
+returns c = from_fn_is _ _ _ 16 _ nan c.from_fn.ensures.items (λ i y q h k. search rules)

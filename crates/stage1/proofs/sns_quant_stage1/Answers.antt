@@ -2,19 +2,17 @@
 use Rattle.stage1.proofs.Whole.{inside, low_row_lem, high_row_lem, both_rows, both_codes, less_codes}
 use Rattle.stage1.proofs.sns_quant_stage1.Goals as goal
 
-pub first_stage_vector-code-requires : goal.first_stage_vector-code-requires
-first_stage_vector-code-requires c = record {
-  lfcb_value = (c.lfcb_by_place-lfcb.ensures, c.hfcb_by_place-hfcb.ensures);
-  lf_bound = (inside _ _ c.smallest-ind_lf.ensures, inside _ _ c.smallest-ind_hf.ensures);
-}
+pub first_stage_vector-requires : goal.first_stage_vector-requires
+first_stage_vector-requires c = (inside _ _ c.first_least-ind_lf.ensures, inside _ _ c.first_least-ind_hf.ensures)
 
 pub returns : goal.returns
 returns c =
-    let lf = low_row_lem _ _ _ _ c.lfcb_by_place-lfcb.ensures c.dmse_rows-dmse_lf.ensures c.smallest-ind_lf.ensures in
-    let hf = high_row_lem _ _ _ _ c.hfcb_by_place-hfcb.ensures c.dmse_rows-dmse_hf.ensures c.smallest-ind_hf.ensures in
-    let st1 = c.first_stage_vector-code.ensures in
+    let codebooks = c.new-codebooks.result in
+    let lf = low_row_lem _ _ _ _ codebooks.low_is c.dmse_rows-dmse_lf.ensures c.first_least-ind_lf.ensures in
+    let hf = high_row_lem _ _ _ _ codebooks.high_is c.dmse_rows-dmse_hf.ensures c.first_least-ind_hf.ensures in
+    let st1 = c.first_stage_vector.ensures in
     record {
       value = both_rows _ _ _ lf hf;
       st1_after = both_codes _ _ _ lf hf _ st1;
-      r1_after = less_codes _ _ _ lf hf _ st1 _ c.less-rest.ensures;
+      r1_after = less_codes _ _ _ lf hf _ st1 _ c.less.ensures;
     }

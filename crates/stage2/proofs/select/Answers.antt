@@ -14,7 +14,7 @@ in_scan : (t : List Float) (q : List (List Float)) (i : ℕ) → i ≡ winner_of
 in_scan t q i e = rw e (winner_under t q)
 
 pub normalize_candidates-xq-requires : goal.normalize_candidates-xq-requires
-normalize_candidates-xq-requires c = (c.requires.0, four_rows _ _ c.requires.1)
+normalize_candidates-xq-requires c = four_rows _ _ c.requires
 
 pub choice_at-c-requires : goal.choice_at-c-requires
 choice_at-c-requires c = in_scan _ _ _ c.winner-best.ensures
@@ -26,4 +26,4 @@ pub bounds-gains-best : goal.bounds-gains-best
 bounds-gains-best c = omega (arith, in_scan _ _ _ c.winner-best.ensures, choices_are)
 
 pub returns : goal.returns
-returns c = selected_is _ _ _ _ _ (candidates_are _ _ _ c.requires.1 c.normalize_candidates-xq.ensures) c.scanned_gains-gains.ensures c.winner-best.ensures c.choice_at-c.ensures
+returns c = selected_is _ _ _ _ _ (candidates_are _ _ _ c.requires c.normalize_candidates-xq.ensures) c.scanned_gains-gains.ensures c.winner-best.ensures c.choice_at-c.ensures

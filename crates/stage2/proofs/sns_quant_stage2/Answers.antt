@@ -33,11 +33,8 @@ offset_bounds-v-shape_j-2 c = record { fits = omega (arith, shape_room _ _ c.sel
 pub bounds-v-shape_j-2 : goal.bounds-v-shape_j-2
 bounds-v-shape_j-2 c = omega (arith, shape_room _ _ c.select-s.ensures)
 
-pub scale-g-requires : goal.scale-g-requires
-scale-g-requires c = (c.roots-roots.ensures, four_rows _ _ c.add_signs-v.ensures _ (omega (arith, shape_room _ _ c.select-s.ensures)))
-
-pub from_codes-scfq-requires : goal.from_codes-scfq-requires
-from_codes-scfq-requires c = four_rows _ _ c.add_signs-v.ensures _ (omega (arith, shape_room _ _ c.select-s.ensures))
+pub invariant_of-sns_y_shape_j : goal.invariant_of-sns_y_shape_j
+invariant_of-sns_y_shape_j c = record { sixteen = four_rows _ _ c.add_signs-v.ensures _ (omega (arith, shape_room _ _ c.select-s.ensures)) }
 
 pub returns : goal.returns
 returns c =

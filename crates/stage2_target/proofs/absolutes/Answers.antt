@@ -1,18 +1,23 @@
--- The loop fills the list of absolute values from its first place up.
-use mathlib.Core.Path.{refl}
-use native.Mathlib.Omega.{arith}
-use borrow.Author.Rules.{rules}
-use Rattle.list_laws.proofs.Fill.{over_none, over_more}
-use Rattle.list_laws.proofs.Full.{full}
+-- Each place is its own absolute value.
+use Rattle.std.proofs.Common.{◌≡◌, ◌∙◌, false, get_or, refl, rules}
+use Rattle.std.specs.Float.{float_with_sign}
+use lib.Ieee.{Float, nan, inf, fin}
+use Rattle.float_laws.specs.Absolute.{abs_of}
+use Rattle.list_laws.proofs.FromFn.{from_fn_is}
 use Rattle.stage2_target.specs.Target.{absolutes_of}
 use Rattle.stage2_target.proofs.absolutes.Goals as goal
 
-pub loop-n-init : goal.loop-n-init
-loop-n-init c = (search rules, over_none _ _)
-
-pub loop-n-preserved : goal.loop-n-preserved
-loop-n-preserved c = (search rules, over_more _ _ _ _ _ c.loop-n.invariant.1 c.abs.ensures)
+plus_sign : (x : Float) → float_with_sign false x ≡ abs_of x
+unfolding float_with_sign abs_of
+plus_sign nan = refl
+plus_sign (inf s) = refl
+plus_sign (fin s m e) = refl
 
 pub returns : goal.returns
 unfolding absolutes_of
-returns c = full _ 16 _ _ _ c.loop-n.invariant.1 (omega arith) refl
+returns c =
+    from_fn_is _ _ _ 16 _ nan c.from_fn.ensures.items
+    (λ i y q h k.
+    let e : y ≡ float_with_sign false (get_or c.args.t.now i nan) = search rules in
+    let f : q ≡ _ = search rules in
+    (f, e ∙ plus_sign _))

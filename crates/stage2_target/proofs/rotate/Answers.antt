@@ -1,18 +1,17 @@
--- The loop fills the list of column sums from its first place up.
-use mathlib.Core.Path.{refl}
-use native.Mathlib.Omega.{arith}
-use borrow.Author.Rules.{rules}
-use Rattle.list_laws.proofs.Fill.{over_none, over_more}
-use Rattle.list_laws.proofs.Full.{full}
-use Rattle.stage2_target.specs.Target.{target_of}
+-- Each place is its own column sum.
+use Rattle.std.proofs.Common.{◌≡◌, ◌∙◌, rules}
+use lib.Ieee.{nan}
+use Rattle.list_laws.proofs.FromFn.{from_fn_is}
+use Rattle.rotation.specs.Column.{column_at}
+use Rattle.rotation.proofs.Columns.{column_of_rows}
+use Rattle.stage2_target.specs.Target.{target_at, target_of}
 use Rattle.stage2_target.proofs.rotate.Goals as goal
 
-pub loop-n-init : goal.loop-n-init
-loop-n-init c = (search rules, over_none _ _)
-
-pub loop-n-preserved : goal.loop-n-preserved
-loop-n-preserved c = (search rules, over_more _ _ _ _ _ c.loop-n.invariant.1 c.column_sum.ensures)
-
 pub returns : goal.returns
-unfolding target_of
-returns c = full _ 16 _ _ _ c.loop-n.invariant.1 (omega arith) refl
+unfolding target_of target_at
+returns c =
+    from_fn_is _ _ _ 16 _ nan c.from_fn.ensures.items
+    (λ i y q h k.
+    let e : y ≡ column_at c.args.d.now c.args.residual.now i = search rules in
+    let f : q ≡ _ = search rules in
+    (f, e ∙ column_of_rows _ _ _ c.requires))

@@ -1,17 +1,9 @@
--- The floats are as the definition has them, and the places up to n hold the factors.
-use mathlib.Core.Path.{◌≡◌, refl}
-use native.Mathlib.Omega.{arith}
-use lib.Dec.{lit≤}
-use Rattle.list_laws.proofs.Range.{holds_none, holds_all, holds_up}
+-- The floats are as the definition has them, and each place holds its factor.
+use Rattle.std.proofs.Common.{rules}
+use lib.Ieee.{nan}
+use Rattle.list_laws.proofs.FromFn.{from_fn_is}
+use Rattle.synthesis.proofs.Sums.{columns_are}
 use Rattle.synthesis.proofs.from_codes.Goals as goal
 
-pub loop-n-init : goal.loop-n-init
-loop-n-init c = (lit≤ tt, holds_none _ _ _ _ _ refl)
-
-pub loop-n-preserved : goal.loop-n-preserved
-loop-n-preserved c = (omega arith, holds_up _ _ _ _ c.loop-n.n _ 0 c.loop-n.n _ refl refl (omega arith) (rw (c.column_sum.ensures, c.floats-x.ensures)) c.loop-n.invariant.1)
-
 pub returns : goal.returns
-returns c =
-    let e : c.loop-n.n ≡ 16 = omega arith in
-    holds_all _ _ _ _ (rw e at c.loop-n.invariant.1)
+returns c = from_fn_is _ _ _ 16 _ nan c.from_fn.ensures.items (λ i y q h k. let e = columns_are _ _ _ i c.d_by_columns-d.ensures c.floats-x.ensures h in search (rules, e))

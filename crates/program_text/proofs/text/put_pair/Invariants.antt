@@ -1,6 +1,0 @@
--- Each byte once.
-use Rattle.std.proofs.Common.{◌-◌, length}
-use Rattle.program_text.proofs.text.put_pair.Given as goal
-
-abbrev pub decreases-loop-n : goal.decreases-loop-n
-decreases-loop-n l = length l.bytes - l.n
