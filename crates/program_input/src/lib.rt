@@ -3,11 +3,10 @@
 // answers by the programs' expected output (tests/frames).
 #![tactic(auto)]
 
-ghost use Rattle.std.specs.Prelude.{ℕ, ◌≡◌, ◌+◌, ◌*◌, ◌<◌, ◌≤◌, length, take, drop, IfOk, OnErr};
-ghost use Rattle.std.specs.Int.{w32, from_le_bytes};
+ghost use Rattle.std.specs.Prelude.{ℕ, ◌≡◌, ◌+◌, ◌*◌, ◌<◌, ◌≤◌, length, take, IfOk, OnErr};
 ghost use Rattle.std.specs.Io.KnownBytes.{Consumes, IsAtEnd};
 ghost use Rattle.list_laws.specs.ListOf.{list_of};
-ghost use Rattle.program_input.specs.Pattern.{pattern_of};
+ghost use Rattle.program_input.specs.Pattern.{pattern_of, float_at, word_at, record_of};
 
 use std::io::Read;
 use std::{array, io};
@@ -15,7 +14,7 @@ use std::{array, io};
 // The words of bytes, four of these each, the lowest first.
 pub fn words<const N: usize>(bytes: &[u8]) -> [u32; N]
     requires { 4 * N ≤ length bytes.now }
-    ensures { result ≡ list_of N (λ n. from_le_bytes w32 (take 4 (drop (4 * n) bytes.now))) }
+    ensures { result ≡ list_of N (word_at bytes.now) }
 {
     let (words, _) = bytes.as_chunks::<4>();
     array::from_fn(|n| u32::from_le_bytes(words[n]))
@@ -23,7 +22,9 @@ pub fn words<const N: usize>(bytes: &[u8]) -> [u32; N]
 
 // The float of a pattern. No proof says which NaN a float is, so every NaN is one: its pattern, but for the sign, is above
 // that of infinity.
-pub fn float_of(bits: u32) -> f32 {
+pub fn float_of(bits: u32) -> f32
+    ensures { result ≡ float_at bits }
+{
     if 0x7f80_0000 < bits % 0x8000_0000 {
         return f32::NAN;
     }
@@ -48,7 +49,9 @@ pub fn whole_records(bytes: &[u8]) -> usize
 }
 
 // The sixteen floats of a record.
-pub fn record(bytes: &[u8; 64]) -> [f32; 16] {
+pub fn record(bytes: &[u8; 64]) -> [f32; 16]
+    ensures { result ≡ record_of bytes.now }
+{
     let words = words::<16>(bytes);
     array::from_fn(|n| float_of(words[n]))
 }

@@ -1,4 +1,8 @@
 // One record of sixteen factors: quantized, and a line of text for it.
+ghost use Rattle.std.specs.Prelude.{◌≡◌};
+ghost use Rattle.program_input.specs.Pattern.{record_of};
+ghost use Rattle.program_records.specs.Record.{record_as};
+
 use frame_fields::Fields;
 use refusals::Refused;
 use sns_encode::Encoded;
@@ -14,7 +18,9 @@ pub struct Quantized {
 }
 
 // Quantizes a record.
-pub fn quantized_record(record: &[u8; 64]) -> Result<Quantized, Refused> {
+pub fn quantized_record(record: &[u8; 64]) -> Result<Quantized, Refused>
+    ensures { result ≡ record_as (record_of «record».now) }
+{
     let mut factors = [0.0f32; 16];
     let encoded = sns_encode::encode(&program_input::record(record), &mut factors)?;
     Ok(Quantized { encoded, factors })
