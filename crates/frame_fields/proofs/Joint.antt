@@ -24,9 +24,12 @@ module _ (s g : ℕ) (n : Numbers) where
   unfolding joint_index
   joint_2 e = rw e
 
-  pub joint_3 : s ≡ 3 → 15158272 + g % 2 + 2 * n.index_a ≡ joint_index s g n
-  unfolding joint_index
-  joint_3 e = rw (e, size_near)
+pub joint_3 : (s g : ℕ) (n : Numbers) → (s ≡ 0 → ⊥) → (s ≡ 1 → ⊥) → (s ≡ 2 → ⊥) → 15158272 + g % 2 + 2 * n.index_a ≡ joint_index s g n
+unfolding joint_index
+joint_3 zero g n h k l = absurd (h refl)
+joint_3 (suc zero) g n h k l = absurd (k refl)
+joint_3 (suc (suc zero)) g n h k l = absurd (l refl)
+joint_3 (suc (suc (suc s))) g n h k l = rw size_near
 
 -- ---- how large its parts are
 pub b_room : (s : ℕ) (n : Numbers) → Indexed s n → s ≡ 0 → (n.index_b < 6) × (n.sign_b < 2)
@@ -40,8 +43,11 @@ low_room (suc (suc s)) n h l = absurd (omega arith)
 near_room : (n : Numbers) → Indexed 2 n → n.index_a < 15158272
 near_room n h = rw size_near at h.index_a
 
-pub far_room : (s : ℕ) (n : Numbers) → Indexed s n → s ≡ 3 → n.index_a < 774912
-far_room s n h e = rw (e, size_far) at h.index_a
+pub far_room : (s : ℕ) (n : Numbers) → Indexed s n → (s ≡ 0 → ⊥) → (s ≡ 1 → ⊥) → (s ≡ 2 → ⊥) → n.index_a < 774912
+far_room zero n i h k l = absurd (h refl)
+far_room (suc zero) n i h k l = absurd (k refl)
+far_room (suc (suc zero)) n i h k l = absurd (l refl)
+far_room (suc (suc (suc s))) n i h k l = rw size_far at i.index_a
 
 -- ---- and so the joint index
 bit : (g : ℕ) → g % 2 ≤ 1

@@ -5,19 +5,25 @@
 // It ends with an error where a read or a write fails or there is no memory for a buffer; what was written before stands.
 #![tactic(auto)]
 
-ghost use Rattle.std.specs.Prelude.{◌≤◌};
+ghost use Rattle.std.specs.Prelude.{◌*◌, ◌≤◌};
 
 use frame_fields::Fields;
 use program_input::{bits_of, read_full, words};
 use std::io;
 use std::io::{BufReader, BufWriter, Read, Write};
 
-// A frame's band count and fields, with 0 for each number that the input ends before.
-fn next(input: &mut impl Read) -> io::Result<(u32, Fields)> {
-    let mut bytes = [0u8; 36];
-    read_full(input, &mut bytes)?;
+// The next numbers of the input, eight at most, with 0 for each that it ends before. No more is read than is asked for.
+fn next<const N: usize>(input: &mut impl Read) -> io::Result<[u32; N]>
+    requires { 4 * N ≤ 32 }
+{
+    let mut bytes = [0u8; 32];
+    read_full(input, &mut bytes[..4 * N])?;
+    Ok(words::<N>(&bytes))
+}
+
+// A frame's fields.
+fn fields(input: &mut impl Read) -> io::Result<Fields> {
     let [
-        band_count,
         low_row,
         high_row,
         shape,
@@ -26,8 +32,8 @@ fn next(input: &mut impl Read) -> io::Result<(u32, Fields)> {
         sign_b,
         index_a,
         index_b,
-    ] = words::<9>(&bytes);
-    let fields = Fields {
+    ] = next::<8>(input)?;
+    Ok(Fields {
         low_row,
         high_row,
         shape,
@@ -36,8 +42,7 @@ fn next(input: &mut impl Read) -> io::Result<(u32, Fields)> {
         sign_b,
         index_a,
         index_b,
-    };
-    Ok((band_count, fields))
+    })
 }
 
 // How many frames there were and how many were accepted, and the sum of the bits of all band values.
@@ -75,15 +80,15 @@ impl Seen {
     }
 }
 
-// Every frame until the input ends.
+// Every frame until the input ends, or until one has no bands: such a one ends it without a wait for its fields.
 fn all(input: &mut impl Read) -> io::Result<Seen> {
     let mut seen = Seen::default();
     for _ in 0..u64::MAX {
-        let (band_count, fields) = next(input)?;
+        let [band_count] = next::<1>(input)?;
         if band_count == 0 {
             break;
         }
-        seen.add(band_count, fields);
+        seen.add(band_count, fields(input)?);
     }
     Ok(seen)
 }

@@ -27,14 +27,11 @@ pub fn quantized_record(record: &[u8; 64]) -> Result<Quantized, Refused>
 }
 
 // Writes a frame's line: low row, high row, shape, gain, sign A, sign B, joint index, index A, index B, a bar, and the
-// factors as `shown` has them. It fails only with the error of a write.
-pub fn write_frame<D: Display + Drop, F: Fn(f32) -> D>(
+// factors, each as a D. It fails only with the error of a write, or where a D gives none of its text.
+pub fn write_frame<D: Display + Drop + From<f32>>(
     out: &mut impl Write,
     quantized: &Quantized,
-    shown: &F,
-) -> io::Result<()>
-    requires { F.IsAlwaysCallable shown.now }
-{
+) -> io::Result<()> {
     let Encoded {
         fields,
         joint_index,
@@ -53,5 +50,5 @@ pub fn write_frame<D: Display + Drop, F: Fn(f32) -> D>(
         out,
         "{low_row} {high_row} {shape} {gain} {sign_a} {sign_b} {joint_index} {index_a} {index_b} |"
     )?;
-    program_text::line(out, quantized.factors.iter().map(|x| shown(*x)))
+    program_text::line(out, quantized.factors.iter().map(|x| D::from(*x)))
 }

@@ -8,6 +8,9 @@ use std::{fmt, io};
 // 256 records of sixteen floats.
 const BLOCK: usize = 16384;
 
+// Room for 512 bytes of each of 256 lines, so that a block's lines are one write.
+const LINES: usize = 131072;
+
 // How many records were whole, how many of them were refused, and whether the last one was cut.
 #[derive(Clone, Copy, Default)]
 struct Summary {
@@ -30,18 +33,15 @@ impl Display for Summary {
     }
 }
 
-// Writes the lines of the whole records, and answers how many were refused. It fails only with the error of a write.
-fn write_lines<D: Display + Drop, F: Fn(f32) -> D>(
+// Writes the lines of the whole records, and answers how many were refused. It fails as `write_frame` does.
+fn write_lines<D: Display + Drop + From<f32>>(
     out: &mut impl Write,
     bytes: &[u8],
-    shown: &F,
-) -> io::Result<u64>
-    requires { F.IsAlwaysCallable shown.now }
-{
+) -> io::Result<u64> {
     let mut refused = 0u64;
     for record in bytes.as_chunks::<64>().0 {
         match quantized_record(record) {
-            Ok(quantized) => write_frame(out, &quantized, shown)?,
+            Ok(quantized) => write_frame::<D>(out, &quantized)?,
             Err(why) => {
                 writeln!(out, "refused {why}")?;
                 refused = refused.wrapping_add(1);
@@ -51,29 +51,28 @@ fn write_lines<D: Display + Drop, F: Fn(f32) -> D>(
     Ok(refused)
 }
 
-// Blocks of 256 records, until one is not full, and each float as `shown` has it. No input is long enough to reach the end
-// of an u64. It fails only where there is no memory for the output's buffer, or with the error of a read or of a write; what
-// was written before stands, and whole records of a block that could not be read have no line.
-pub fn run<D: Display + Drop, F: Fn(f32) -> D>(
+// Blocks of 256 records, until one is not full, and each float as a D. No input is long enough to reach the end of an u64.
+// It fails only where there is no memory for the output's buffer, with the error of a read or of a write, or where a D gives
+// none of its text; what was written before stands, and whole records of a block that could not be read have no line.
+pub fn run<D: Display + Drop + From<f32>>(
     rt: &(impl Input + Print + AllocGlobal),
-    shown: F,
-) -> io::Result<()>
-    requires { F.IsAlwaysCallable shown }
-{
+) -> io::Result<()> {
     let mut input = rt.reader();
-    let mut out = BufWriter::new(rt.alloc(), io::writer(rt))?;
+    let mut out = BufWriter::with_capacity(rt.alloc(), LINES, io::writer(rt))?;
     let mut block = [0u8; BLOCK];
     let mut all = Summary::default();
     for _ in 0..u64::MAX {
         let got = read_full(&mut input, &mut block)?;
         let bytes = &block[..got];
-        let refused = write_lines(&mut out, bytes, &shown)?;
+        let refused = write_lines::<D>(&mut out, bytes)?;
         all.records = all.records.wrapping_add(whole_records(bytes) as u64);
         all.refused = all.refused.wrapping_add(refused);
         all.is_cut = got % 64 != 0;
         if got < BLOCK {
             break;
         }
+        // no line waits for the next block
+        out.flush()?;
     }
     writeln!(out, "{all}")?;
     out.flush()

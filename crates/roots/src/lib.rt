@@ -119,7 +119,9 @@ pub struct Roots {
 
 impl Roots {
     // Asked for once, and lent on.
-    pub fn new() -> Self {
+    pub fn new() -> Self
+        ensures { result.table ≡ root_table }
+    {
         Roots { table: ROOTS }
     }
 

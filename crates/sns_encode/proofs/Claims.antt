@@ -21,11 +21,11 @@ pub encode_pinned : EncodePinned
 encode_pinned factors old r r' new new' (p, q) (p', q') = (p ∙ sym p', q ∙ sym q')
 
 -- what gives a refusal is refused with it, and what gives an answer is done
-refused_by : {A : Type 0} (a : Answer) (x : A) (refused : Refused) → giving a x ≡ Err refused → a ≡ Err refused
+pub refused_by : {A : Type 0} (a : Answer) (x : A) (refused : Refused) → giving a x ≡ Err refused → a ≡ Err refused
 refused_by (Ok u) x refused e = cc
 refused_by (Err other) x refused e = cc
 
-done_by : {A : Type 0} (a : Answer) (x y : A) → giving a x ≡ Ok y → (a ≡ Done) × (y ≡ x)
+pub done_by : {A : Type 0} (a : Answer) (x y : A) → giving a x ≡ Ok y → (a ≡ Done) × (y ≡ x)
 done_by (Ok u) x y e = (refl, cc)
 done_by (Err other) x y e = (cc, cc)
 

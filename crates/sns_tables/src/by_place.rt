@@ -578,7 +578,9 @@ pub struct ByPlace {
 
 impl ByPlace {
     // Asked for once.
-    pub fn new() -> Self {
+    pub fn new() -> Self
+        ensures { (result.low ≡ by_place lfcb_rows) × (result.high ≡ by_place hfcb_rows) }
+    {
         ByPlace {
             low: lfcb_by_place(),
             high: hfcb_by_place(),

@@ -15,7 +15,9 @@ pub struct Codebooks {
 
 impl Codebooks {
     // Asked for once, and lent on.
-    pub fn new() -> Self {
+    pub fn new() -> Self
+        ensures { (result.low ≡ lfcb_rows) × (result.high ≡ hfcb_rows) }
+    {
         Codebooks {
             low: tables::lfcb(),
             high: tables::hfcb(),

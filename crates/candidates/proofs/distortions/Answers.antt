@@ -28,5 +28,5 @@ pub returns : goal.returns
 unfolding distortion_at
 returns c =
     rw choices_are
-    (from_fn_is _ _ _ 18 _ nan c.from_fn.ensures.items
+    (from_fn_is _ _ _ _ _ nan c.from_fn.ensures.items
     (λ i y q h k. (search rules, let l : i < choices = omega (arith, choices_are) in search (rules, distortion_is, c.requires))))

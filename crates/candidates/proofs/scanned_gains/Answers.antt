@@ -16,4 +16,4 @@ from_fn-requires c =
 
 pub returns : goal.returns
 unfolding gain_of
-returns c = rw choices_are (from_fn_is _ _ _ 18 _ nan c.from_fn.ensures.items (λ i y q h k. search rules))
+returns c = rw choices_are (from_fn_is _ _ _ _ _ nan c.from_fn.ensures.items (λ i y q h k. search rules))

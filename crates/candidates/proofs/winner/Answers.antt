@@ -5,4 +5,4 @@ use Rattle.candidates.proofs.Choices.{choices_are}
 use Rattle.candidates.proofs.winner.Goals as goal
 
 pub returns : goal.returns
-returns c = winner_is _ _ _ 17 _ (sym choices_are) c.distortions.ensures c.first_least.ensures
+returns c = winner_is _ _ _ _ _ (sym choices_are) c.distortions.ensures c.first_least.ensures

@@ -22,10 +22,10 @@ pub overflow_add-result-in-1 : goal.overflow_add-result-in-1
 overflow_add-result-in-1 c = record { fits = omega (arith, low_room _ _ c.requires.1 (omega arith)) }
 
 pub overflow_mul-result-in_default : goal.overflow_mul-result-in_default
-overflow_mul-result-in_default c = record { fits = omega (arith, far_room _ _ c.requires.1 (omega arith)) }
+overflow_mul-result-in_default c = record { fits = omega (arith, far_room _ _ c.requires.1 (λ e. omega (arith, e)) (λ e. omega (arith, e)) (λ e. omega (arith, e))) }
 
 pub overflow_add-result-in_default-2 : goal.overflow_add-result-in_default-2
-overflow_add-result-in_default-2 c = record { fits = omega (arith, far_room _ _ c.requires.1 (omega arith)) }
+overflow_add-result-in_default-2 c = record { fits = omega (arith, far_room _ _ c.requires.1 (λ e. omega (arith, e)) (λ e. omega (arith, e)) (λ e. omega (arith, e))) }
 
 pub returns-in-0 : goal.returns-in-0
 returns-in-0 c = joint_0 _ _ _ (omega arith)
@@ -37,4 +37,4 @@ pub returns-in-2 : goal.returns-in-2
 returns-in-2 c = joint_2 _ _ _ (omega arith)
 
 pub returns-in_default : goal.returns-in_default
-returns-in_default c = joint_3 _ _ _ (omega arith)
+returns-in_default c = joint_3 _ _ _ (λ e. omega (arith, e)) (λ e. omega (arith, e)) (λ e. omega (arith, e))
