@@ -3,7 +3,7 @@
 
 help:
 	@echo 'make run       build the program quantize and run it on the recorded frames; it ends with how many there were'
-	@echo 'make test      the gate: format, every proof, must-fail edit and program, then the Rust comparisons on what was proved'
+	@echo 'make test      the gate: format, every proof, must-fail edit, test and program, then the Rust comparisons on what was proved'
 	@echo 'make check     prove what changed since the last time, and run the programs: the quick loop'
 	@echo 'make staticlib the library for C and Rust: crates/sns_c/out/libsns_c.a, with include/lc3_sns.h'
 	@echo 'make bindings  the library called from C and from bindings/rust (see tests/bindings.sh)'

@@ -6,5 +6,5 @@ use program_text::Bits;
 use std::io;
 
 fn main(rt: HostRuntime) -> io::Result<()> {
-    program_records::run::run::<Bits>(&rt)
+    program_records::run::run_as::<Bits>(&rt)
 }

@@ -1,5 +1,6 @@
 // One record of sixteen factors: quantized, and a line of text for it.
 ghost use Rattle.std.specs.Prelude.{◌≡◌};
+ghost use Rattle.std.specs.Iterator.{IsFinite};
 ghost use Rattle.program_input.specs.Pattern.{record_of};
 ghost use Rattle.program_records.specs.Record.{record_as};
 
@@ -26,16 +27,19 @@ pub fn quantized_record(record: &[u8; 64]) -> Result<Quantized, Refused>
     Ok(Quantized { encoded, factors })
 }
 
-// Writes a frame's line: low row, high row, shape, gain, sign A, sign B, joint index, index A, index B, a bar, and the
-// factors, each as a D. It fails only with the error of a write, or where a D gives none of its text.
-pub fn write_frame<D: Display + Drop + From<f32>>(
+// What `write_frame` and `write_frame_as` write, the factors as they are given.
+fn write_line<D: Display + Drop, I: Iterator<Item = D> + Drop>(
     out: &mut impl Write,
-    quantized: &Quantized,
-) -> io::Result<()> {
+    encoded: Encoded,
+    factors: I,
+) -> io::Result<()>
+    requires can { I.can_next factors }
+    requires ends { IsFinite (I.remaining factors) }
+{
     let Encoded {
         fields,
         joint_index,
-    } = quantized.encoded;
+    } = encoded;
     let Fields {
         low_row,
         high_row,
@@ -50,5 +54,33 @@ pub fn write_frame<D: Display + Drop + From<f32>>(
         out,
         "{low_row} {high_row} {shape} {gain} {sign_a} {sign_b} {joint_index} {index_a} {index_b} |"
     )?;
-    program_text::line(out, quantized.factors.iter().map(|x| D::from(*x)))
+    program_text::line(out, factors)
+}
+
+// Writes a frame's line: low row, high row, shape, gain, sign A, sign B, joint index, index A, index B, a bar, and the factors
+// as `shown` has them. It fails only with the error of a write, or where what `shown` gives has none of its text.
+pub fn write_frame<D: Display + Drop, F: Fn(f32) -> D>(
+    out: &mut impl Write,
+    quantized: &Quantized,
+    shown: &F,
+) -> io::Result<()>
+    requires { F.IsAlwaysCallable shown.now }
+{
+    write_line(
+        out,
+        quantized.encoded,
+        quantized.factors.iter().map(|x| shown(*x)),
+    )
+}
+
+// As `write_frame`, each factor as a D, so that nothing is asked of the caller.
+pub fn write_frame_as<D: Display + Drop + From<f32>>(
+    out: &mut impl Write,
+    quantized: &Quantized,
+) -> io::Result<()> {
+    write_line(
+        out,
+        quantized.encoded,
+        quantized.factors.iter().map(|x| D::from(*x)),
+    )
 }

@@ -3,7 +3,10 @@
 // Rust's answers by the programs' expected output (tests/frames).
 //   frames   one record: quantized, and its line
 //   run      every record until the input ends, and the summary
+//   tests    what no program calls, floats as a closure has them
 #![tactic(auto)]
 
 pub mod frames;
 pub mod run;
+#[cfg(test)]
+mod tests;

@@ -8,5 +8,5 @@ use program_text::Decimal;
 use std::io;
 
 fn main(rt: HostRuntime) -> io::Result<()> {
-    program_records::run::run::<Decimal>(&rt)
+    program_records::run::run_as::<Decimal>(&rt)
 }
